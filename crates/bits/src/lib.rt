@@ -1,6 +1,6 @@
 // Shifts and masks whose contracts say / and %, so that no caller divides and no caller's proof meets a mask.
 // wide, wide64: a byte as a wider number.
-// low, low8, low_byte: the low bits of a number. At a literal n the contract computes: low(x, 5) is x % 32.
+// low, low16, low8, low_byte: the low bits of a number. At a literal n the contract computes: low(x, 5) is x % 32.
 // bit, field: one bit of a byte, and n bits of it from bit k.
 // A shift needs no function here: x >> 3 reads as x / 8 by itself.
 ghost use mathlib.Core.Path.{_≡_};
@@ -21,6 +21,14 @@ pub fn wide64(b: u8) -> u64
 
 // The low n bits of x.
 pub fn low(x: usize, n: usize) -> usize
+    requires { ⌜ n < 16 ⌝ }
+    ensures { λ r. ⌜ r ≡ x % 2 ^ n ⌝ }
+{
+    x & ((1 << n) - 1)
+}
+
+// The low n bits of an address.
+pub fn low16(x: u16, n: usize) -> u16
     requires { ⌜ n < 16 ⌝ }
     ensures { λ r. ⌜ r ≡ x % 2 ^ n ⌝ }
 {

@@ -1,0 +1,22 @@
+use Rattle.registers.proofs.Cases.{pre-cases}
+use borrow.Author.Needs.{needs}
+use Rattle.registers.proofs.pre_render.Statement.{statement}
+use Rattle.registers.proofs.pre_render.Tie as tie
+use Rattle.registers.proofs.pre_render.Reads as reads
+use Rattle.registers.proofs.pre_render.Lts as lts
+use Rattle.registers.proofs.rendering.Reads as rendering-reads
+
+-- src/lib.rt:313:8
+rendering-requires : tie.Need-rendering-requires
+rendering-requires c κs = search needs
+
+-- src/lib.rt:314:9
+returns : tie.Need-returns
+returns c = search pre-cases
+
+-- src/lib.rt:310:1
+returns-2 : tie.Need-returns-2
+returns-2 c = search pre-cases
+
+pub pre-render-spec : {M : Type 1} → statement M
+pre-render-spec = tie.close (tie.spec rendering-requires returns returns-2)

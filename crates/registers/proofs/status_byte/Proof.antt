@@ -1,0 +1,21 @@
+use Rattle.registers.proofs.Cases.{status-1}
+use borrow.Author.Needs.{needs}
+use Rattle.registers.proofs.status_byte.Statement.{statement}
+use Rattle.registers.proofs.status_byte.Tie as tie
+use Rattle.registers.proofs.status_byte.Reads as reads
+use Rattle.registers.proofs.status_byte.Lts as lts
+
+-- src/lib.rt:263:5
+mul-result : tie.Need-mul-result
+mul-result c = search needs
+
+-- src/lib.rt:263:5
+add-result : tie.Need-add-result
+add-result c = search needs
+
+-- src/lib.rt:260:1
+returns : tie.Need-returns
+returns c = status-1 _
+
+pub status-byte-spec : {M : Type 1} → statement M
+status-byte-spec = tie.close (tie.spec mul-result add-result returns)
