@@ -1,4 +1,4 @@
--- The steps of v: each stays below 32768; n columns right in closed form.
+-- The steps of v: each stays below 32768; what they do to its parts; n columns right in closed form.
 use Prim.Native.Nat.{ℕ, zero, suc, _+_, _-_, _*_, _/_, _%_, _<_, _≤_}
 use mathlib.Core.Bool.{Bool, true, false, cond}
 use mathlib.Core.Path.{_≡_, refl, ap, sym, _∙_}
@@ -8,7 +8,9 @@ use native.Mathlib.Decide.{decLt}
 use native.Mathlib.Numerals.{add-one}
 use borrow.Author.Tests.{eq-eqb, ne-eqb, lt-ltb, le-ltb}
 use lib.Dec.{eqb, ltb}
-use Rattle.model.specs.Scroll.{fineY, row, column, turn10, turn11, rowDown, right, rightBy, copySide}
+use Rattle.model.specs.declared.Ppu.{Ppu}
+use Rattle.model.specs.Scroll.{fineY, nametable, row, column, turn10, turn11, rowDown, right, rightBy, copySide}
+use Rattle.model.specs.Ports.{stepped}
 
 pub right-in : (v : ℕ) → v % 32 < 31 → right v ≡ v + 1
 unfolding right
@@ -92,3 +94,86 @@ down-lt v h =
 pub side-lt : (t v : ℕ) → v < 32768 → copySide t v < 32768
 unfolding copySide
 side-lt t v h = omega arith
+
+-- what an access adds to v
+pub step-lt : (u : Ppu) → stepped u .v < 32768
+unfolding stepped
+step-lt u = omega arith
+
+-- v of its parts: fine y, nametable, row, column
+abbrev pub address : ℕ → ℕ → ℕ → ℕ → ℕ
+address f n r c = f * 4096 + n * 1024 + r * 32 + c
+
+pub address-of : (v : ℕ) → v < 32768 → address (fineY v) (nametable v) (row v) (column v) ≡ v
+address-of v h =
+    let a : v / 1024 ≡ v / 32 / 32 = omega arith in
+    let b : v / 4096 ≡ v / 1024 / 4 = omega arith in
+    let c : v / 4096 % 8 ≡ v / 4096 = omega arith in
+    rw c (omega arith)
+
+-- bit 11 of the address turned, and bit 10, in the nametable's number
+high-turned : (n : ℕ) → n < 4 → (n + 2) % 4 + 4 * (n / 2 % 2) ≡ n + 2
+high-turned n h = omega arith
+
+low-turned : (n : ℕ) → n / 2 * 2 + (n + 1) % 2 + 2 * (n % 2) ≡ n + 1
+low-turned n = omega arith
+
+module _ (f n r c : ℕ) (hn : n < 4) (hr : r < 32) (hc : c < 32) where
+  pub fine-is : f < 8 → fineY (address f n r c) ≡ f
+  fine-is h = let e : address f n r c / 4096 ≡ f = omega arith in rw e (omega arith)
+
+  pub nametable-is : nametable (address f n r c) ≡ n
+  nametable-is = let e : address f n r c / 1024 ≡ f * 4 + n = omega arith in rw e (omega arith)
+
+  pub row-is : row (address f n r c) ≡ r
+  row-is = let e : address f n r c / 32 ≡ (f * 4 + n) * 32 + r = omega arith in rw e (omega arith)
+
+  pub column-is : column (address f n r c) ≡ c
+  column-is = omega arith
+
+  low-is : address f n r c % 4096 ≡ n * 1024 + r * 32 + c
+  low-is = omega arith
+
+  -- row down: fine y below 7 rises
+  pub down-fine : f < 7 → rowDown (address f n r c) ≡ address (f + 1) n r c
+  unfolding rowDown
+  down-fine h = rw (fine-is (omega arith), lt-ltb f 7 h) (omega arith)
+
+-- at 7 it becomes 0 and the row rises
+module _ (n r c : ℕ) (hn : n < 4) (hr : r < 32) (hc : c < 32) where
+  pub down-row : (r ≡ 29 → ⊥) → (r ≡ 31 → ⊥) → rowDown (address 7 n r c) ≡ address 0 n (r + 1) c
+  unfolding rowDown
+  down-row a b = rw (fine-is 7 n r c hn hr hc (omega arith), row-is 7 n r c hn hr hc, low-is 7 n r c hn hr hc, ne-eqb r 29 a, ne-eqb r 31 b) (omega arith)
+
+module _ (n c : ℕ) (hn : n < 4) (hc : c < 32) where
+  -- but 29 becomes 0 with bit 11 turned
+  pub down-29 : rowDown (address 7 n 29 c) ≡ address 0 ((n + 2) % 4) 0 c
+  unfolding rowDown
+  down-29 =
+      rw (fine-is 7 n 29 c hn (omega arith) hc (omega arith), row-is 7 n 29 c hn (omega arith) hc, low-is 7 n 29 c hn (omega arith) hc)
+      (let e : (n * 1024 + 29 * 32 + c - 29 * 32) / 2048 ≡ n / 2 = omega arith in rw e (omega (arith, high-turned n hn)))
+
+  -- and 31 becomes 0 without
+  pub down-31 : rowDown (address 7 n 31 c) ≡ address 0 n 0 c
+  unfolding rowDown
+  down-31 = rw (fine-is 7 n 31 c hn (omega arith) hc (omega arith), row-is 7 n 31 c hn (omega arith) hc, low-is 7 n 31 c hn (omega arith) hc) (omega arith)
+
+module _ (f n r : ℕ) (hn : n < 4) (hr : r < 32) where
+  -- column right: bits 4-0 rise
+  pub right-column : (c : ℕ) → c < 31 → right (address f n r c) ≡ address f n r (c + 1)
+  right-column c h = right-in (address f n r c) (omega arith) ∙ omega arith
+
+  -- 31 becomes 0 with bit 10 turned
+  pub right-31 : right (address f n r 31) ≡ address f (n / 2 * 2 + (n + 1) % 2) r 0
+  right-31 = right-end (address f n r 31) (omega arith) ∙ (let e : (address f n r 31 - 31) / 1024 % 2 ≡ n % 2 = omega arith in rw e (omega (arith, low-turned n)))
+
+  -- t bits 10 and 4-0 copied into v: its fine y, bit 11 and row stay
+  pub side-copy : (c f′ n′ r′ c′ : ℕ) → c < 32 → n′ < 4 → r′ < 32 → c′ < 32 → copySide (address f′ n′ r′ c′) (address f n r c) ≡ address f (n / 2 * 2 + n′ % 2) r c′
+  unfolding copySide
+  side-copy c f′ n′ r′ c′ h i j k =
+      let a : address f n r c / 2048 ≡ f * 2 + n / 2 = omega arith in
+      let b : address f′ n′ r′ c′ / 1024 % 2 ≡ n′ % 2 = rw (ten f′ n′ r′ c′ j k) (omega arith) in
+      rw (a, b, row-is f n r c hn hr h, column-is f′ n′ r′ c′ i j k) (omega arith)
+    where
+      ten : (f n r c : ℕ) → r < 32 → c < 32 → address f n r c / 1024 ≡ f * 4 + n
+      ten f n r c h k = omega arith

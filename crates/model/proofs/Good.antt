@@ -1,0 +1,268 @@
+-- What every call keeps, of any kind, on any line, refused or not: a well-formed unit stays well formed, the board stays, and so does the length of
+-- each memory.
+use mathlib.Core.Path.{_≡_, refl, sym, ap, _∙_, subst}
+use mathlib.Core.Bool.{Bool, true, false, cond, _&&_}
+use mathlib.Core.List.{List, [], _∷_}
+use Prim.Native.Nat.{ℕ, zero, suc, _+_, _*_, _/_, _%_, _≤_, _<_}
+use native.Mathlib.Omega.{arith}
+use lib.Dec.{T, ltb, eqb, eqb→eq}
+use lib.ListN.{length, set, length-set}
+use borrow.Author.Tests.{ltb-true, ltb-false, eqb-true, eqb-false}
+use Rattle.model.specs.declared.Ppu.{Ppu}
+use Rattle.model.specs.declared.Board.{Board}
+use Rattle.model.specs.declared.Place.{Place}
+use Rattle.model.specs.declared.Place.the-variants.{Pattern, Nametable, Palette}
+use Rattle.model.specs.Unit.{Cells, Memory, VideoLengths, Lengths, withCells, State, state, lineLength, lastLine, isWellFormed, isDrawing, isRendering, dropsOam}
+use Rattle.model.specs.Address.{withOam, stored, placeOf}
+use Rattle.model.specs.Ports.{wroteUnit, wroteMemory, wroteOamBytes, wroteVideo, dmaUnit, dmaOam}
+use Rattle.model.specs.Scroll.{rowDown, copySide}
+use Rattle.model.specs.Line.{marked, statusOf, drawnUnit, drawnLine, picture, idleLine, vblankLine, preRenderLine, blankUnit, oneLine, linesRun, lineCount}
+use Rattle.model.specs.Calls.{Lent, own, other, Call, readCall, writeCall, dmaCall, lineCall, runCall, Outcome, longFor, lineLong, lineSizes, inRange, blocked, order, refusalOf, readDone, writeDone, dmaDone, lineDone, runDone, done, gate, onLent, lentOf, lentMemory, ownMemory, call}
+use Rattle.model.proofs.Kept.{cond-both, and-l, and-r, Good, good, well, Kept, kept-read, kept-write, kept-dma}
+use Rattle.model.proofs.Scroll.{down-lt, side-lt}
+use Rattle.model.proofs.Line.{picture-long}
+
+-- ACCEPTED CALLS
+pub record Accepted (c : Call) (s : State) : Type 0 where
+  pub long : longFor c (s .unit) (s .memory) ≡ true
+  pub well : isWellFormed (s .unit) ≡ true
+  pub ranged : inRange c ≡ true
+  pub free : isDrawing (s .unit) && blocked c ≡ false
+
+order-zero : (a b c d : Bool) → order a b c d ≡ 0 → (a ≡ true) × (b ≡ true) × (c ≡ true) × (d ≡ false)
+unfolding order
+order-zero true true true false e = (refl, refl, refl, refl)
+order-zero true true true true e = absurd (omega arith)
+order-zero true true false d e = absurd (omega arith)
+order-zero true false c d e = absurd (omega arith)
+order-zero false b c d e = absurd (omega arith)
+
+pub accepted : (c : Call) (s : State) → refusalOf c s ≡ 0 → Accepted c s
+unfolding refusalOf
+accepted c s e =
+    let p = order-zero (longFor c (s .unit) (s .memory)) (isWellFormed (s .unit)) (inRange c) (isDrawing (s .unit) && blocked c) e in
+    record { long = p .0; well = p .1; ranged = p .2; free = p .3 }
+
+-- what an accepted call has, and the state before it, every call has
+pub on-gate : (P : State → Type 0) (c : Call) (s : State) → (Accepted c s → P (done c s .after)) → P s → P (onLent c s .after)
+unfolding onLent
+on-gate P c s f h = go (refusalOf c s) (accepted c s)
+  where
+    go : (r : ℕ) → (r ≡ 0 → Accepted c s) → P (gate r (done c s) s .after)
+    go zero a = f (a refl)
+    go (suc k) a = h
+
+pub good-of : (u : Ppu) → isWellFormed u ≡ true → Good u
+good-of u e = good u (subst T (sym e) tt)
+
+-- THE UNIT
+pub record Sound (u u′ : Ppu) : Type 0 where
+  pub good : Good u′
+  pub board : u′ .board ≡ u .board
+
+sound : {n : ℕ} {u u′ : Ppu} → Kept n u u′ → Sound u u′
+sound k = record { good = k .nums .good; board = k .board }
+
+-- the low five bits of the status
+pub marked-32 : (b : Bool) (s : ℕ) → marked 32 b s % 32 ≡ s % 32
+unfolding marked
+marked-32 true s = omega arith
+marked-32 false s = refl
+
+pub marked-64 : (b : Bool) (s : ℕ) → marked 64 b s % 32 ≡ s % 32
+unfolding marked
+marked-64 true s = omega arith
+marked-64 false s = refl
+
+pick-lt : (n : ℕ) (b : Bool) (x y : ℕ) → x < n → y < n → cond b x y < n
+pick-lt n b x y p q = cond-both (λ z. z < n) b x y p q
+
+drawn-good : (u : Ppu) (l r n o : List ℕ) → Good u → u .scanline < 240 → Sound u (drawnUnit u l r n o)
+unfolding drawnUnit statusOf
+drawn-good u l r n o g h =
+    record {
+      good = record {
+        status = marked-32 _ _ ∙ marked-64 _ (u .status) ∙ g .status;
+        v = pick-lt 32768 (isRendering u) _ (u .v) (side-lt (u .t) (rowDown (u .v)) (down-lt (u .v) (g .v))) (g .v);
+        t = g .t;
+        x = g .x;
+        scanline = omega arith;
+      };
+      board = refl;
+    }
+
+blank-good : (u : Ppu) → Good u → Sound u (blankUnit u)
+unfolding blankUnit vblankLine preRenderLine idleLine
+blank-good u g = go (eqb (u .scanline) 241) (eqb (u .scanline) (lastLine (u .board))) refl refl
+  where
+    go : (x y : Bool) → eqb (u .scanline) 241 ≡ x → eqb (u .scanline) (lastLine (u .board)) ≡ y → Sound u (cond x (vblankLine u) (cond y (preRenderLine u) (idleLine u)))
+    go true y e f = let h = eqb-true (u .scanline) 241 e in record { good = omega arith; board = refl }
+    go false true e f = record { good = record { status = refl; v = pick-lt 32768 (isRendering u) (u .t) (u .v) (g .t) (g .v); t = g .t; x = g .x; scanline = omega arith }; board = refl }
+    go false false e f = let h = eqb-false (u .scanline) (lastLine (u .board)) f in record { good = omega arith; board = refl }
+
+pub line-sound : (s : State) → Good (s .unit) → Sound (s .unit) (oneLine s .unit)
+unfolding oneLine drawnLine
+line-sound s g = go (ltb (s .unit .scanline) 240) refl
+  where
+    go : (x : Bool) → ltb (s .unit .scanline) 240 ≡ x → Sound (s .unit) (cond x (drawnLine s) (state (blankUnit (s .unit)) (s .memory)) .unit)
+    go true e = drawn-good (s .unit) _ _ _ _ g (ltb-true (s .unit .scanline) 240 e)
+    go false e = blank-good (s .unit) g
+
+pub lines-sound : (k : ℕ) (s : State) → Good (s .unit) → Sound (s .unit) (linesRun k s .unit)
+unfolding linesRun
+lines-sound zero s g = record { good = g; board = refl }
+lines-sound (suc k) s g =
+    let i = lines-sound k s g in
+    let n = line-sound (linesRun k s) (i .good) in
+    record { good = n .good; board = n .board ∙ i .board }
+
+pub done-sound : (c : Call) (s : State) → Good (s .unit) → Sound (s .unit) (done c s .after .unit)
+unfolding done readDone writeDone dmaDone lineDone runDone
+done-sound (readCall l a) s g = sound (kept-read (s .unit) g (a % 8) _ (s .memory .cells))
+done-sound (writeCall l a b) s g = sound (kept-write (s .unit) g b (a % 8))
+done-sound (dmaCall l p) s g = sound (kept-dma p (s .unit) g)
+done-sound (lineCall l) s g = line-sound s g
+done-sound (runCall l why n) s g = lines-sound (lineCount why n s) s g
+
+-- no call changes the board
+pub lent-board : (c : Call) (s : State) → onLent c s .after .unit .board ≡ s .unit .board
+lent-board c s = on-gate (λ (t : State). t .unit .board ≡ s .unit .board) c s (λ a. done-sound c s (good-of (s .unit) (a .well)) .board) refl
+
+pub call-board : (c : Call) (s : State) → call c s .after .unit .board ≡ s .unit .board
+unfolding call
+call-board c s = lent-board c (state (s .unit) (lentMemory (lentOf c) (s .memory)))
+
+-- a unit is well formed after a call if it was before; one that was not stays
+pub lent-formed : (c : Call) (s : State) → isWellFormed (onLent c s .after .unit) ≡ isWellFormed (s .unit)
+lent-formed c s =
+    on-gate (λ (t : State). isWellFormed (t .unit) ≡ isWellFormed (s .unit)) c s
+    (λ a. well (done c s .after .unit) (done-sound c s (good-of (s .unit) (a .well)) .good) ∙ sym (a .well)) refl
+
+pub call-formed : (c : Call) (s : State) → isWellFormed (call c s .after .unit) ≡ isWellFormed (s .unit)
+unfolding call
+call-formed c s = lent-formed c (state (s .unit) (lentMemory (lentOf c) (s .memory)))
+
+pub call-good : (c : Call) (s : State) → isWellFormed (s .unit) ≡ true → isWellFormed (call c s .after .unit) ≡ true
+call-good c s h = call-formed c s ∙ h
+
+-- THE MEMORY: each part as long as before
+pub record SameCells (m m′ : Cells) : Type 0 where
+  pub left : length (m′ .left) ≡ length (m .left)
+  pub right : length (m′ .right) ≡ length (m .right)
+  pub nametables : length (m′ .nametables) ≡ length (m .nametables)
+  pub oam : length (m′ .oam) ≡ length (m .oam)
+  pub palette : length (m′ .palette) ≡ length (m .palette)
+
+pub record SameLengths (m m′ : Memory) : Type 0 where
+  pub cells : SameCells (m .cells) (m′ .cells)
+  pub line : length (m′ .line) ≡ length (m .line)
+
+same-cells : (m : Cells) → SameCells m m
+same-cells m = record { left = refl; right = refl; nametables = refl; oam = refl; palette = refl }
+
+stored-long : (p : Place) (w : Bool) (b : ℕ) (m : Cells) → SameCells m (stored p w b m)
+unfolding stored
+stored-long (Pattern true at) true b m = record { left = refl; right = simp length-set; nametables = refl; oam = refl; palette = refl }
+stored-long (Pattern false at) true b m = record { left = simp length-set; right = refl; nametables = refl; oam = refl; palette = refl }
+stored-long (Pattern right at) false b m = same-cells m
+stored-long (Nametable at) w b m = record { left = refl; right = refl; nametables = simp length-set; oam = refl; palette = refl }
+stored-long (Palette at) w b m = record { left = refl; right = refl; nametables = refl; oam = refl; palette = simp length-set }
+
+video-long : (p : ℕ) (u : Ppu) (b : ℕ) (m : Cells) → SameCells m (wroteVideo p u b m)
+unfolding wroteVideo
+video-long p u b m = cond-both (SameCells m) (eqb p 7) _ m (stored-long (placeOf (u .board) (u .v)) (u .board .writable) b m) (same-cells m)
+
+oam-long : (p : ℕ) (u : Ppu) (b : ℕ) (o : List ℕ) → length (wroteOamBytes p u b o) ≡ length o
+unfolding wroteOamBytes
+oam-long p u b o = go (eqb p 4) (dropsOam u)
+  where
+    go : (x y : Bool) → length (cond x (cond y o (set o (u .oamaddr) b)) o) ≡ length o
+    go true true = refl
+    go true false = simp length-set
+    go false y = refl
+
+wrote-long : (p : ℕ) (u : Ppu) (b : ℕ) (m : Cells) → SameCells m (wroteMemory p u b m)
+unfolding wroteMemory
+wrote-long p u b m =
+    let v = video-long p u b m in
+    record { left = v .left; right = v .right; nametables = v .nametables; oam = oam-long p u b (m .oam); palette = v .palette }
+
+dma-long : (p : List ℕ) (u : Ppu) (o : List ℕ) → length (dmaOam p u o) ≡ length o
+unfolding dmaOam
+dma-long [] u o = refl
+dma-long (b ∷ bs) u o = dma-long bs (wroteUnit 4 u b) (wroteOamBytes 4 u b o) ∙ oam-long 4 u b o
+
+-- a line leaves all but the line buffer as it is
+pub line-cells : (s : State) → oneLine s .memory .cells ≡ s .memory .cells
+unfolding oneLine drawnLine
+line-cells s = cond-both (λ (t : State). t .memory .cells ≡ s .memory .cells) (ltb (s .unit .scanline) 240) (drawnLine s) (state (blankUnit (s .unit)) (s .memory)) refl refl
+
+line-long : (s : State) → length (s .memory .line) ≡ lineLength → length (oneLine s .memory .line) ≡ lineLength
+unfolding oneLine drawnLine
+line-long s h = cond-both (λ (t : State). length (t .memory .line) ≡ lineLength) (ltb (s .unit .scanline) 240) (drawnLine s) (state (blankUnit (s .unit)) (s .memory)) (picture-long _ _ _ _ _) h
+
+pub lines-cells : (k : ℕ) (s : State) → linesRun k s .memory .cells ≡ s .memory .cells
+unfolding linesRun
+lines-cells zero s = refl
+lines-cells (suc k) s = line-cells (linesRun k s) ∙ lines-cells k s
+
+lines-long : (k : ℕ) (s : State) → length (s .memory .line) ≡ lineLength → length (linesRun k s .memory .line) ≡ lineLength
+unfolding linesRun
+lines-long zero s h = h
+lines-long (suc k) s h = line-long (linesRun k s) (lines-long k s h)
+
+line-fits : (u : Ppu) (m : Memory) → T (lineLong u m) → length (m .line) ≡ lineLength
+line-fits u m e = eqb→eq _ _ (search (and-l, and-r) depth 9)
+
+drawn-long : {m m′ : Memory} → m′ .cells ≡ m .cells → length (m .line) ≡ lineLength → length (m′ .line) ≡ lineLength → SameLengths m m′
+drawn-long {m} {m′} e h k = record { cells = subst (SameCells (m .cells)) (sym e) (same-cells (m .cells)); line = k ∙ sym h }
+
+done-long : (c : Call) (s : State) → longFor c (s .unit) (s .memory) ≡ true → SameLengths (s .memory) (done c s .after .memory)
+unfolding done readDone writeDone dmaDone lineDone runDone
+done-long (readCall l a) s h = record { cells = same-cells (s .memory .cells); line = refl }
+done-long (writeCall l a b) s h = record { cells = wrote-long (a % 8) (s .unit) b (s .memory .cells); line = refl }
+done-long (dmaCall l p) s h = record { cells = record { left = refl; right = refl; nametables = refl; oam = dma-long p (s .unit) (s .memory .cells .oam); palette = refl }; line = refl }
+done-long (lineCall l) s h =
+    let f = line-fits (s .unit) (s .memory) (subst T (sym h) tt) in
+    drawn-long (line-cells s) f (line-long s f)
+done-long (runCall l why n) s h =
+    let f = line-fits (s .unit) (s .memory) (subst T (sym h) tt) in
+    let k = lineCount why n s in
+    drawn-long (lines-cells k s) f (lines-long k s f)
+
+-- what a call is lent keeps its lengths
+pub lent-long : (c : Call) (s : State) → SameLengths (s .memory) (onLent c s .after .memory)
+lent-long c s =
+    on-gate (λ (t : State). SameLengths (s .memory) (t .memory)) c s (λ a. done-long c s (a .long))
+    (record { cells = same-cells (s .memory .cells); line = refl })
+
+pub call-lent-long : (c : Call) (s : State) → SameLengths (lentMemory (lentOf c) (s .memory)) (call c s .lent)
+unfolding call
+call-lent-long c s = lent-long c (state (s .unit) (lentMemory (lentOf c) (s .memory)))
+
+-- and so does the unit's own memory
+own-long : (l : Lent) (m o : Memory) → SameLengths (lentMemory l m) o → SameLengths m (ownMemory l m o)
+own-long own m o h = h
+own-long (other x) m o h = record { cells = same-cells (m .cells); line = refl }
+
+pub call-long : (c : Call) (s : State) → SameLengths (s .memory) (call c s .after .memory)
+unfolding call
+call-long c s = own-long (lentOf c) (s .memory) _ (lent-long c (state (s .unit) (lentMemory (lentOf c) (s .memory))))
+
+kept-lengths : (d : Board) (m m′ : Memory) → SameLengths m m′ → Lengths d m → Lengths d m′
+kept-lengths d m m′ e l =
+    record {
+      video = record {
+        left = e .cells .left ∙ l .video .left;
+        right = e .cells .right ∙ l .video .right;
+        nametables = e .cells .nametables ∙ l .video .nametables;
+        palette = e .cells .palette ∙ l .video .palette;
+      };
+      oam = e .cells .oam ∙ l .oam;
+      line = e .line ∙ l .line;
+    }
+
+pub call-lengths : (c : Call) (s : State) → Lengths (s .unit .board) (s .memory) → Lengths (call c s .after .unit .board) (call c s .after .memory)
+call-lengths c s l =
+    subst (λ d. Lengths d (call c s .after .memory)) (sym (call-board c s))
+    (kept-lengths (s .unit .board) (s .memory) (call c s .after .memory) (call-long c s) l)
