@@ -83,8 +83,8 @@ down-lt v h =
     ⊎-elim
     (λ (lt : fineY v < 7). rw (lt-ltb (fineY v) 7 lt) (omega arith))
     (λ (ge : 7 ≤ fineY v).
-      rw (le-ltb (fineY v) 7 ge)
-      (either (eqb (row v) 29) _ _ (turn11-lt (v % 4096 - 29 * 32) (omega arith)) (either (eqb (row v) 31) _ _ (omega arith) (omega arith))))
+    rw (le-ltb (fineY v) 7 ge)
+    (either (eqb (row v) 29) _ _ (turn11-lt (v % 4096 - 29 * 32) (omega arith)) (either (eqb (row v) 31) _ _ (omega arith) (omega arith))))
     (lt-or-ge (fineY v) 7)
   where
     either : (b : Bool) (x y : ℕ) → x < 32768 → y < 32768 → cond b x y < 32768

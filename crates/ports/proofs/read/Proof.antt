@@ -1,0 +1,28 @@
+use Rattle.ports.proofs.Cases.{read-1}
+use borrow.Author.Needs.{needs}
+use Rattle.ports.proofs.read.Statement.{statement}
+use Rattle.ports.proofs.read.Tie as tie
+use Rattle.ports.proofs.read.Reads as reads
+use Rattle.ports.proofs.read.Lts as lts
+use Rattle.ports.proofs.read_byte.Reads as read-byte-reads
+use Rattle.ports.proofs.read_unit.Reads as read-unit-reads
+use Rattle.registers.proofs.done.Reads as done-reads
+
+-- src/lib.rt:89:9
+read-byte-requires : tie.Need-read-byte-requires
+read-byte-requires c κs = search needs
+
+-- src/lib.rt:90:9
+read-unit-requires : tie.Need-read-unit-requires
+read-unit-requires c κs = search needs
+
+-- src/lib.rt:91:5
+done-requires : tie.Need-done-requires
+done-requires c κs = search needs
+
+-- src/lib.rt:76:1
+returns : tie.Need-returns
+returns c = search read-1
+
+pub read-spec : {M : Type 1} → statement M
+read-spec = tie.close (tie.spec read-byte-requires read-unit-requires done-requires returns)

@@ -1,0 +1,50 @@
+use Rattle.ports.proofs.Cases.{unit-cases}
+use borrow.Author.Needs.{needs}
+use Rattle.ports.proofs.read_unit.Statement.{statement}
+use Rattle.ports.proofs.read_unit.Tie as tie
+use Rattle.ports.proofs.read_unit.Reads as reads
+use Rattle.ports.proofs.read_unit.Lts as lts
+use Rattle.memory.proofs.buffer_byte.Reads as buffer-byte-reads
+use Rattle.registers.proofs.fill_latch.Reads as fill-latch-reads
+use Rattle.registers.proofs.read_data.Reads as read-data-reads
+use Rattle.registers.proofs.read_status.Reads as read-status-reads
+
+-- src/lib.rt:65:9
+read-status-requires : tie.Need-read-status-requires
+read-status-requires c κs = search needs
+
+-- src/lib.rt:65:9
+returns : tie.Need-returns
+returns c = search unit-cases
+
+-- src/lib.rt:69:13
+buffer-byte-requires : tie.Need-buffer-byte-requires
+buffer-byte-requires c κs = search needs
+
+-- src/lib.rt:70:9
+read-data-requires : tie.Need-read-data-requires
+read-data-requires c κs = search needs
+
+-- src/lib.rt:70:9
+returns-2 : tie.Need-returns-2
+returns-2 c = search unit-cases
+
+-- src/lib.rt:72:5
+fill-latch-requires : tie.Need-fill-latch-requires
+fill-latch-requires c κs = search needs
+
+-- src/lib.rt:52:1
+returns-3 : tie.Need-returns-3
+returns-3 c = search unit-cases
+
+pub read-unit-spec : {M : Type 1} → statement M
+read-unit-spec =
+    tie.close
+    (tie.spec
+    read-status-requires
+    returns
+    buffer-byte-requires
+    read-data-requires
+    returns-2
+    fill-latch-requires
+    returns-3)
