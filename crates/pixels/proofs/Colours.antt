@@ -39,8 +39,14 @@ sum-fits c a q i k = record { fits = omega (arith, mul-le-mul-right q (and-le-r 
 pub pixels-are : (f : ℕ → ℕ) (q : ℕ) → ((k : ℕ) → k < 8 → f k < 4) → pixelsBy (pack f 8) q ≡ pack (λ (k : ℕ). numberOf q (f k)) 8
 unfolding pixelsBy
 pixels-are f q h =
-    rw (← threes, ← fours, pack-add f (λ (k : ℕ). 3) 8, pack-and (λ (k : ℕ). f k + 3) (λ (k : ℕ). 4) 8 (λ k lt. omega (arith, h k lt)) (λ k lt. lit< tt)
-    , pack-mul (λ (k : ℕ). bitAnd (f k + 3) 4) q 8, pack-add f (λ (k : ℕ). bitAnd (f k + 3) 4 * q) 8)
+    rw (
+      ← threes,
+      ← fours,
+      pack-add f (λ (k : ℕ). 3) 8,
+      pack-and (λ (k : ℕ). f k + 3) (λ (k : ℕ). 4) 8 (λ k lt. omega (arith, h k lt)) (λ k lt. lit< tt),
+      pack-mul (λ (k : ℕ). bitAnd (f k + 3) 4) q 8,
+      pack-add f (λ (k : ℕ). bitAnd (f k + 3) 4 * q) 8,
+    )
     (pack-ext (λ (k : ℕ). f k + bitAnd (f k + 3) 4 * q) (λ (k : ℕ). numberOf q (f k)) 8 (λ k lt. one-pixel q (f k) (h k lt)))
 
 pub colour-lt : (low high k : ℕ) → colourOf low high k < 4
@@ -55,8 +61,11 @@ colours-by : (low high : ℕ) (s : ℕ → ℕ)
     → pack (λ (k : ℕ). low / 2 ^ s k % 2) 8 + 2 * pack (λ (k : ℕ). high / 2 ^ s k % 2) 8 ≡ pack (λ (k : ℕ). colourOf low high (s k)) 8
 unfolding colourOf
 colours-by low high s =
-    rw (mul-comm 2 (pack (λ (k : ℕ). high / 2 ^ s k % 2) 8), pack-mul (λ (k : ℕ). high / 2 ^ s k % 2) 2 8
-    , pack-add (λ (k : ℕ). low / 2 ^ s k % 2) (λ (k : ℕ). high / 2 ^ s k % 2 * 2) 8)
+    rw (
+      mul-comm 2 (pack (λ (k : ℕ). high / 2 ^ s k % 2) 8),
+      pack-mul (λ (k : ℕ). high / 2 ^ s k % 2) 2 8,
+      pack-add (λ (k : ℕ). low / 2 ^ s k % 2) (λ (k : ℕ). high / 2 ^ s k % 2 * 2) 8,
+    )
     (pack-ext (λ (k : ℕ). low / 2 ^ s k % 2 + high / 2 ^ s k % 2 * 2) (λ (k : ℕ). low / 2 ^ s k % 2 + 2 * (high / 2 ^ s k % 2)) 8 (λ k lt. omega arith))
 
 pub colours-are : (low high : ℕ) → spreadOf low + 2 * spreadOf high ≡ pack (λ (k : ℕ). colourOf low high (7 - k)) 8

@@ -82,11 +82,11 @@ tab-in g at (suc n) l k h a b =
     ⊎-elim
     (λ (lt : k < at + n). over-other (overTab g at n l) (at + n) (g n) k (λ e. omega arith) ∙ tab-in g at n l k (omega arith) a lt)
     (λ (ge : at + n ≤ k).
-      let e : k ≡ at + n = omega arith in
-      let d : (at + n) - at ≡ n = omega arith in
-      rw (e, d)
-      (over-same (overTab g at n l) (at + n) (g n) (rw (length-overTab g at n l) (omega arith))
-      ∙ ap (λ (o : ℕ). overOne o (g n)) (tab-out g at n l (at + n) (inr (omega arith)))))
+    let e : k ≡ at + n = omega arith in
+    let d : (at + n) - at ≡ n = omega arith in
+    rw (e, d)
+    (over-same (overTab g at n l) (at + n) (g n) (rw (length-overTab g at n l) (omega arith))
+    ∙ ap (λ (o : ℕ). overOne o (g n)) (tab-out g at n l (at + n) (inr (omega arith)))))
     (lt-or-ge k (at + n))
 
 -- what g has in the line's column p if its own column 0 is at x
@@ -104,10 +104,10 @@ over-placed g x p row h =
     ⊎-elim
     (λ (lt : p < x). tab-out g x 8 row p (inl lt) ∙ sym (rw (lt-leb x p lt) (over-none (getD row p 0))))
     (λ (ge : x ≤ p).
-      ⊎-elim
-      (λ (lt : p < x + 8). tab-in g x 8 row p h ge lt ∙ rw (le-leb x p ge, lt-ltb p (x + 8) lt))
-      (λ (out : x + 8 ≤ p). tab-out g x 8 row p (inr out) ∙ sym (rw (le-leb x p ge, le-ltb p (x + 8) out) (over-none (getD row p 0))))
-      (lt-or-ge p (x + 8)))
+    ⊎-elim
+    (λ (lt : p < x + 8). tab-in g x 8 row p h ge lt ∙ rw (le-leb x p ge, lt-ltb p (x + 8) lt))
+    (λ (out : x + 8 ≤ p). tab-out g x 8 row p (inr out) ∙ sym (rw (le-leb x p ge, le-ltb p (x + 8) out) (over-none (getD row p 0))))
+    (lt-or-ge p (x + 8)))
     (lt-or-ge p x)
 
 -- a sprite's eight pixels over a row, at each column: `sprite_bytes`, then `put_over` at its X byte
@@ -116,6 +116,10 @@ pub over-shade : (s : Sprite) (n p : ℕ) (row row′ : List ℕ) → s .x + 8 �
     → row′ ≡ overTab (byteOf n) (s .x) 8 row → getD row′ p 0 ≡ overOne (getD row p 0) (shade s p)
 unfolding shade
 over-shade s n p row row′ h e d =
-    rw (d, e, over-cong _ (λ (j : ℕ). numberOf (4 + s .attribute % 4 + s .attribute / 32 % 2 * 8) (colourOf (s .low) (s .high) (cond (bit 64 (s .attribute)) j (7 - j)))) (s .x) 8 row
-    (λ j lt. shade-bytes (s .low) (s .high) (4 + s .attribute % 4 + s .attribute / 32 % 2 * 8) (bit 64 (s .attribute)) j (omega arith) lt))
+    rw (
+      d,
+      e,
+      over-cong _ (λ (j : ℕ). numberOf (4 + s .attribute % 4 + s .attribute / 32 % 2 * 8) (colourOf (s .low) (s .high) (cond (bit 64 (s .attribute)) j (7 - j)))) (s .x) 8 row
+          (λ j lt. shade-bytes (s .low) (s .high) (4 + s .attribute % 4 + s .attribute / 32 % 2 * 8) (bit 64 (s .attribute)) j (omega arith) lt),
+    )
     (over-placed _ (s .x) p row h)

@@ -52,10 +52,10 @@ clear-more l l′ i p h e =
     ⊎-elim
     (λ (lt : p < i). getD-set-other l′ i p 0 0 (λ d. omega arith) ∙ e ∙ rw (lt-ltb p i lt, lt-ltb p (i + 1) (omega arith)))
     (λ (ge : i ≤ p).
-      ⊎-elim
-      (λ (lt : p < i + 1).
-        let d : p ≡ i = omega arith in
-        rw (lt-ltb p (i + 1) lt, d) (getD-set-same l′ i 0 0 h))
-      (λ (out : i + 1 ≤ p). getD-set-other l′ i p 0 0 (λ d. omega arith) ∙ e ∙ rw (le-ltb p i (omega arith), le-ltb p (i + 1) out))
-      (lt-or-ge p (i + 1)))
+    ⊎-elim
+    (λ (lt : p < i + 1).
+    let d : p ≡ i = omega arith in
+    rw (lt-ltb p (i + 1) lt, d) (getD-set-same l′ i 0 0 h))
+    (λ (out : i + 1 ≤ p). getD-set-other l′ i p 0 0 (λ d. omega arith) ∙ e ∙ rw (le-ltb p i (omega arith), le-ltb p (i + 1) out))
+    (lt-or-ge p (i + 1)))
     (lt-or-ge p i)

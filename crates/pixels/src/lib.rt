@@ -108,7 +108,16 @@ pub fn sprite_bytes(s: Sprite) -> u64
 fn bytes8(n: u64) -> [u8; 8]
     ensures { λ r. ⌜ r ≡ tab (byteOf n) 8 ⌝ }
 {
-    [byte(n, 0), byte(n, 1), byte(n, 2), byte(n, 3), byte(n, 4), byte(n, 5), byte(n, 6), byte(n, 7)]
+    [
+        byte(n, 0),
+        byte(n, 1),
+        byte(n, 2),
+        byte(n, 3),
+        byte(n, 4),
+        byte(n, 5),
+        byte(n, 6),
+        byte(n, 7),
+    ]
 }
 
 // The old pixel if it is opaque, else the new one.

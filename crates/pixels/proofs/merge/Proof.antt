@@ -43,10 +43,11 @@ loop-less c = search needs
 loop-again : tie.Need-loop-again Inv-loop μ-loop
 loop-again c =
     let l = c .before .before .before .before .loop in
-    let a = c .before .before .before .before .before .before .before .args in
-    ( search needs
-    , simp length-set (search needs)
-    , merge-more (a .line .now) (a .s .now) (l .line) (l .p) _ (search needs) (search needs) (l .inv .2) (c .merge-one .ensures) )
+    let a = c .before .before .before .before .before .before .before .args in (
+      search needs,
+      simp length-set (search needs),
+      merge-more (a .line .now) (a .s .now) (l .line) (l .p) _ (search needs) (search needs) (l .inv .2) (c .merge-one .ensures),
+    )
 
 same-length : tie.Need-same-length Inv-loop μ-loop
 same-length c = search needs
