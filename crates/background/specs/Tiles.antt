@@ -1,0 +1,47 @@
+-- A strip: a row of tiles in one page of nametable RAM, met by a line. What its columns show.
+use Prim.Native.Nat.{ℕ, zero, suc, _+_, _-_, _*_, _/_, _%_, _^_, _<_, _≤_}
+use mathlib.Core.List.{List}
+use lib.ListN.{getD, set}
+use Rattle.model.specs.declared.Wiring.{Wiring}
+use Rattle.model.specs.Address.{pageAt, wiringNumber}
+use Rattle.model.specs.Scroll.{fineY, row}
+use Rattle.model.specs.Background.{colourOf, numberOf}
+use Rattle.background.specs.declared.Strip.{Strip}
+
+-- TEMPORARY
+unfoldable pub storeTab : (ℕ → ℕ) → ℕ → ℕ → List ℕ → List ℕ
+storeTab g at zero l = l
+storeTab g at (suc n) l = set (storeTab g at n l) (at + n) (g n)
+
+-- the strip of v in the page of quarter q
+abbrev pub stripOf : Wiring → ℕ → ℕ → Strip
+stripOf w q v = record
+  { tiles = 1024 * pageAt (wiringNumber w) q + 32 * row v
+  ; attributes = 1024 * pageAt (wiringNumber w) q + 960 + 8 * (row v / 4)
+  ; half = 4 * (row v / 2 % 2)
+  ; fine = fineY v }
+
+-- a strip of 32 columns that lies in nametable RAM, and a row of pixels in a tile
+pub record InPage (s : Strip) : Type 0 where
+  pub tiles : s .tiles ≤ 2016
+  pub attributes : s .attributes ≤ 2040
+  pub half : s .half ≤ 4
+  pub fine : s .fine < 8
+
+-- the palette of column c: two bits of its attribute byte
+unfoldable pub paletteOf : List ℕ → Strip → ℕ → ℕ
+paletteOf n s c = getD n (s .attributes + c / 4) 0 / 2 ^ (s .half + 2 * (c / 2 % 2)) % 4
+
+-- bit k of the tile in column c
+unfoldable pub columnPixel : List ℕ → List ℕ → Strip → ℕ → ℕ → ℕ
+columnPixel table n s c k =
+    numberOf (paletteOf n s c)
+    (colourOf (getD table (16 * getD n (s .tiles + c) 0 + s .fine) 0) (getD table (16 * getD n (s .tiles + c) 0 + s .fine + 8) 0) k)
+
+-- pixel i of the tiles from column c on
+unfoldable pub stripPixel : List ℕ → List ℕ → Strip → ℕ → ℕ → ℕ
+stripPixel table n s c i = columnPixel table n s (c + i / 8) (7 - i % 8)
+
+-- the quarter beside
+abbrev pub besideOf : ℕ → ℕ
+besideOf q = q + 1 - 2 * (q % 2)
