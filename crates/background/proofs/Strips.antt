@@ -14,7 +14,7 @@ use Rattle.model.specs.Line.{tab}
 use Rattle.model.proofs.Scroll.{by-in, by-out}
 use Rattle.model.proofs.Tab.{tab-none, tab-more, tab-done, tab-cong, getD-tab}
 use Rattle.background.specs.declared.Strip.{Strip}
-use Rattle.background.specs.Tiles.{storeTab, stripOf, paletteOf, columnPixel, stripPixel, besideOf}
+use Rattle.background.specs.Strips.{storeTab, stripOf, paletteOf, columnPixel, stripPixel, besideOf}
 
 -- TEMPORARY
 pub store-cong : (f g : ℕ → ℕ) (at n : ℕ) (l : List ℕ) → ((j : ℕ) → j < n → f j ≡ g j) → storeTab f at n l ≡ storeTab g at n l
