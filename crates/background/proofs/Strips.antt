@@ -14,7 +14,7 @@ use Rattle.model.specs.Line.{tab}
 use Rattle.model.proofs.Scroll.{by-in, by-out}
 use Rattle.model.proofs.Tab.{tab-none, tab-more, tab-done, tab-cong, getD-tab}
 use Rattle.background.specs.declared.Strip.{Strip}
-use Rattle.background.specs.Strips.{storeTab, stripOf, paletteOf, columnPixel, stripPixel, besideOf}
+use Rattle.background.specs.Strips.{storeTab, stripOf, paletteOf, columnPixel, stripPixel, besideOf, shifted}
 
 -- TEMPORARY
 pub store-cong : (f g : ℕ → ℕ) (at n : ℕ) (l : List ℕ) → ((j : ℕ) → j < n → f j ≡ g j) → storeTab f at n l ≡ storeTab g at n l
@@ -49,9 +49,9 @@ attribute-place : (q a b : ℕ) → a < 8 → b < 8 → (9152 + q * 1024 + 8 * a
 attribute-place q a b i j = omega arith
 
 -- a tile of the strip of v is the tile that v names
-column-is : (w : Wiring) (n table : List ℕ) (v k : ℕ) → columnPixel table n (stripOf w (nametable v) v) (column v) k ≡ tilePixel w n table v k
+column-is : (w : Wiring) (n table : List ℕ) (v j : ℕ) → columnPixel table n (stripOf w (nametable v) v) (column v) j ≡ tilePixel w n table v (7 - j)
 unfolding columnPixel paletteOf tilePixel tileAt attributeAt attributeAddress lowAt highAt cellOf
-column-is w n table v k =
+column-is w n table v j =
     let a : row v / 4 < 8 = omega arith in
     let b : column v / 4 < 8 = omega arith in
     rw (tile-quarter v, tile-place v, attribute-quarter (nametable v) (row v / 4) (column v / 4) (omega arith) a b
@@ -59,9 +59,9 @@ column-is w n table v k =
     (rw (← add-assoc (1024 * pageAt (wiringNumber w) (nametable v)) (32 * row v) (column v), ← add-assoc (1024 * pageAt (wiringNumber w) (nametable v)) (960 + 8 * (row v / 4)) (column v / 4), ← add-assoc (1024 * pageAt (wiringNumber w) (nametable v)) 960 (8 * (row v / 4))))
 
 -- and of the strip of v also the tile that u names, if u has the same row and fine y
-column-of : (w : Wiring) (n table : List ℕ) (u v k q c : ℕ) → nametable u ≡ q → row u ≡ row v → fineY u ≡ fineY v → column u ≡ c
-    → columnPixel table n (stripOf w q v) c k ≡ tilePixel w n table u k
-column-of w n table u v k q c a b d e = rw (← a, ← b, ← d, ← e) (column-is w n table u k)
+column-of : (w : Wiring) (n table : List ℕ) (u v j q c : ℕ) → nametable u ≡ q → row u ≡ row v → fineY u ≡ fineY v → column u ≡ c
+    → columnPixel table n (stripOf w q v) c j ≡ tilePixel w n table u (7 - j)
+column-of w n table u v j q c a b d e = rw (← a, ← b, ← d, ← e) (column-is w n table u j)
 
 -- t columns right in the page: the same nametable, row and fine y
 in-quarter : (v t : ℕ) → column v + t < 32 → nametable (v + t) ≡ nametable v
@@ -78,7 +78,7 @@ pub run-in : (w : Wiring) (n table : List ℕ) (v i : ℕ) → column v + i / 8 
 unfolding stripPixel backgroundAt
 run-in w n table v i h =
     rw (zero-add i, by-in v (i / 8) h)
-    (column-of w n table (v + i / 8) v (7 - i % 8) (nametable v) (column v + i / 8) (in-quarter v (i / 8) h) (in-row v (i / 8) h) (in-fine v (i / 8) h) (omega arith))
+    (column-of w n table (v + i / 8) v (i % 8) (nametable v) (column v + i / 8) (in-quarter v (i / 8) h) (in-row v (i / 8) h) (in-fine v (i / 8) h) (omega arith))
 
 -- in the page beside: v is 2048 a + 1024 b + y, and b is turned
 whole : (v : ℕ) → v ≡ 2048 * (v / 2048) + 1024 * (v / 1024 % 2) + v % 1024
@@ -152,7 +152,7 @@ run-out w n table v m i e h =
     let d : column v + (m + i / 8) - 32 ≡ i / 8 = omega arith in
     let t : i / 8 < 32 = omega arith in
     rw (zero-add (8 * m + i), a, b, by-out v (m + i / 8) (omega arith) (omega arith), d, zero-add (i / 8))
-    (column-of w n table (turn10 (v - column v) + i / 8) v (7 - i % 8) (besideOf (nametable v)) (i / 8) (out-quarter v (i / 8) t) (out-row v (i / 8) t) (out-fine v (i / 8) t) (out-column v (i / 8) t))
+    (column-of w n table (turn10 (v - column v) + i / 8) v (i % 8) (besideOf (nametable v)) (i / 8) (out-quarter v (i / 8) t) (out-row v (i / 8) t) (out-fine v (i / 8) t) (out-column v (i / 8) t))
 
 -- both runs
 pub two-runs : (w : Wiring) (n table l l₁ l₂ : List ℕ) (v m : ℕ) → m ≡ 32 - column v → length l ≡ 264
@@ -166,27 +166,13 @@ two-runs w n table l l₁ l₂ v m e h e₁ e₂ =
     tab-done f (8 * m + 8 * (column v + 1)) 264 l l₂ (omega arith) h
     (e₂ ∙ tile-more f _ (8 * m) (8 * (column v + 1)) l l₁ (omega arith) f₂ (λ i lt. run-out w n table v m i e (omega arith)))
 
--- a tile more of a run
-pub run-more : (g f : ℕ → ℕ) (at t : ℕ) (l l′ l″ : List ℕ) → l′ ≡ storeTab g (8 * at) (8 * t) l → l″ ≡ storeTab f (8 * (at + t)) 8 l′
-    → ((j : ℕ) → j < 8 → f j ≡ g (8 * t + j)) → l″ ≡ storeTab g (8 * at) (8 * (t + 1)) l
-run-more g f at t l l′ l″ e d h =
-    let a : 8 * (t + 1) ≡ 8 * t + 8 = omega arith in
-    let b : 8 * (at + t) ≡ 8 * at + 8 * t = omega arith in
-    rw (d, e, a, b, store-split g (8 * at) (8 * t) 8 l) (store-cong f (λ (j : ℕ). g (8 * t + j)) (8 * at + 8 * t) 8 (storeTab g (8 * at) (8 * t) l) h)
-
-pub run-at : (table n : List ℕ) (s : Strip) (c t j : ℕ) → j < 8 → columnPixel table n s (c + t) (7 - j) ≡ stripPixel table n s c (8 * t + j)
-unfolding stripPixel
-run-at table n s c t j h =
-    let a : (8 * t + j) / 8 ≡ t = omega arith in
-    let b : (8 * t + j) % 8 ≡ j = omega arith in
-    rw (a, b)
-
 -- the line is the row from column x on
 from-x : (w : Wiring) (n table : List ℕ) (v x p : ℕ) → backgroundAt w n table v 0 (x + p) ≡ backgroundAt w n table v x p
 unfolding backgroundAt
 from-x w n table v x p = rw (zero-add (x + p))
 
 pub line-is : (w : Wiring) (n table b : List ℕ) (v x : ℕ) → x < 8 → b ≡ tab (backgroundAt w n table v 0) 264
-    → tab (λ (p : ℕ). getD b (x + p) 0) 256 ≡ tab (backgroundAt w n table v x) 256
+    → tab (shifted b x) 256 ≡ tab (backgroundAt w n table v x) 256
+unfolding shifted
 line-is w n table b v x h e =
     tab-cong _ _ 256 (λ p lt. rw e (getD-tab (backgroundAt w n table v 0) 264 (x + p) (omega arith) ∙ from-x w n table v x p))

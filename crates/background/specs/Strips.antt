@@ -32,15 +32,19 @@ pub record InPage (s : Strip) : Type 0 where
 unfoldable pub paletteOf : List ℕ → Strip → ℕ → ℕ
 paletteOf n s c = getD n (s .attributes + c / 4) 0 / 2 ^ (s .half + 2 * (c / 2 % 2)) % 4
 
--- bit k of the tile in column c
+-- pixel j of the tile in column c, from the left
 unfoldable pub columnPixel : List ℕ → List ℕ → Strip → ℕ → ℕ → ℕ
-columnPixel table n s c k =
+columnPixel table n s c j =
     numberOf (paletteOf n s c)
-    (colourOf (getD table (16 * getD n (s .tiles + c) 0 + s .fine) 0) (getD table (16 * getD n (s .tiles + c) 0 + s .fine + 8) 0) k)
+    (colourOf (getD table (16 * getD n (s .tiles + c) 0 + s .fine) 0) (getD table (16 * getD n (s .tiles + c) 0 + s .fine + 8) 0) (7 - j))
 
 -- pixel i of the tiles from column c on
 unfoldable pub stripPixel : List ℕ → List ℕ → Strip → ℕ → ℕ → ℕ
-stripPixel table n s c i = columnPixel table n s (c + i / 8) (7 - i % 8)
+stripPixel table n s c i = columnPixel table n s (c + i / 8) (i % 8)
+
+-- pixel p of a row from its pixel x on
+unfoldable pub shifted : List ℕ → ℕ → ℕ → ℕ
+shifted b x p = getD b (x + p) 0
 
 -- the quarter beside
 abbrev pub besideOf : ℕ → ℕ

@@ -7,10 +7,10 @@ ghost use mathlib.Core.Path.{_≡_};
 ghost use Prim.Native.Nat.{ℕ, _+_, _-_, _*_, _/_, _%_, _<_, _≤_};
 ghost use lib.ListN.{length, getD};
 ghost use Rattle.model.specs.Unit.{patternLength, nametableLength, lineLength};
-ghost use Rattle.model.specs.Address.{wiringNumber, pageAt, tableOf};
+ghost use Rattle.model.specs.Address.{tableOf};
 ghost use Rattle.model.specs.Background.{numberOf, colourOf, backgroundAt};
 ghost use Rattle.model.specs.Line.{tab};
-ghost use Rattle.background.specs.Strips.{storeTab, stripOf, InPage, columnPixel, stripPixel, besideOf};
+ghost use Rattle.background.specs.Strips.{storeTab, stripOf, InPage, paletteOf, columnPixel, stripPixel, besideOf, shifted};
 use bits::low;
 use bits::field;
 use bits::wide;
@@ -28,13 +28,6 @@ pub struct Strip {
     pub fine: usize,
 }
 
-fn page(w: Wiring, quarter: usize) -> usize
-    requires { ⌜ quarter < 4 ⌝ }
-    ensures { λ r. ⌜ (r ≡ pageAt (wiringNumber w) quarter) × (r < 2) ⌝ }
-{
-    0
-}
-
 fn put_tile(row: &mut [u8], at: usize, low: u8, high: u8, palette: u8)
     requires { ⌜ (at + 8 ≤ length (now row)) × (palette < 4) ⌝ }
     ensures { λ _. ⌜ now (row .exit) ≡ storeTab (λ (j : ℕ). numberOf palette (colourOf low high (7 - j))) at 8 (now (row .entry)) ⌝ }
@@ -47,7 +40,7 @@ fn strip_at(wiring: Wiring, quarter: usize, v: usize) -> Strip
     requires { ⌜ quarter < 4 ⌝ }
     ensures { λ r. ⌜ (r ≡ stripOf wiring quarter v) × InPage r ⌝ }
 {
-    let base = 1024 * page(wiring, quarter);
+    let base = 1024 * memory::page(wiring, quarter);
     let row = low(v >> 5, 5);
     Strip {
         tiles: base + 32 * row,
@@ -57,14 +50,22 @@ fn strip_at(wiring: Wiring, quarter: usize, v: usize) -> Strip
     }
 }
 
+// The palette of the tile in a strip's column: two bits of its attribute byte.
+fn palette_at(nametables: &[u8], s: Strip, column: usize) -> u8
+    requires { ⌜ (length (now nametables) ≡ 2048) × InPage s × (column < 32) ⌝ }
+    ensures { λ r. ⌜ (r ≡ paletteOf (now (nametables .entry)) s column) × (r < 4) ⌝ }
+{
+    let attribute = nametables[s.attributes + (column >> 2)];
+    field(attribute, s.half + 2 * low(column >> 1, 1), 2)
+}
+
 // Eight pixels of the tile in a strip's column.
 fn put_column(table: &[u8], nametables: &[u8], s: Strip, column: usize, row: &mut [u8], at: usize)
     requires { ⌜ (length (now table) ≡ 4096) × (length (now nametables) ≡ 2048) × InPage s × (column < 32) × (at + 8 ≤ length (now row)) ⌝ }
-    ensures { λ _. ⌜ now (row .exit) ≡ storeTab (λ (j : ℕ). columnPixel (now (table .entry)) (now (nametables .entry)) s column (7 - j)) at 8 (now (row .entry)) ⌝ }
+    ensures { λ _. ⌜ now (row .exit) ≡ storeTab (columnPixel (now (table .entry)) (now (nametables .entry)) s column) at 8 (now (row .entry)) ⌝ }
 {
     let tile = wide(nametables[s.tiles + column]);
-    let attribute = nametables[s.attributes + (column >> 2)];
-    let palette = field(attribute, s.half + 2 * low(column >> 1, 1), 2);
+    let palette = palette_at(nametables, s, column);
     let byte = 16 * tile + s.fine;
     put_tile(row, at, table[byte], table[byte + 8], palette);
 }
@@ -121,7 +122,7 @@ fn tiles_of(wiring: Wiring, second: bool, v: usize, left: &[u8], right: &[u8], n
 // 256 pixels of a row from pixel x on.
 fn shift(row: &[u8], x: usize, line: &mut [u8])
     requires { ⌜ (length (now row) ≡ 264) × (length (now line) ≡ 256) × (x < 8) ⌝ }
-    ensures { λ _. ⌜ now (line .exit) ≡ tab (λ (p : ℕ). getD (now (row .entry)) (x + p) 0) 256 ⌝ }
+    ensures { λ _. ⌜ now (line .exit) ≡ tab (shifted (now (row .entry)) x) 256 ⌝ }
 {
     let mut p = 0;
     while p < 256 {

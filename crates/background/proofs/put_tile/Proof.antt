@@ -4,15 +4,15 @@ use Rattle.background.proofs.put_tile.Tie as tie
 use Rattle.background.proofs.put_tile.Reads as reads
 use Rattle.background.proofs.put_tile.Lts as lts
 
--- src/lib.rt:42:5
+-- src/lib.rt:35:5
 slice-write-row : tie.Need-slice-write-row
 slice-write-row c = search needs
 
--- src/lib.rt:38:1
+-- src/lib.rt:31:1
 same-length : tie.Need-same-length
 same-length c = search needs
 
--- src/lib.rt:38:1
+-- src/lib.rt:31:1
 returns : tie.Need-returns
 returns c = ?
 

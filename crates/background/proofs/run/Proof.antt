@@ -1,3 +1,9 @@
+use Prim.Native.Nat.{_+_, _-_, _*_, _≤_}
+use mathlib.Core.Path.{_≡_, refl}
+use lib.ListN.{length}
+use Rattle.background.specs.Strips.{storeTab, stripPixel}
+use Rattle.background.proofs.Cases.{run-more, run-done}
+use borrow.Author.Needs.{needs}
 use Rattle.background.proofs.run.Statement.{statement}
 use Rattle.background.proofs.run.Tie as tie
 use Rattle.background.proofs.run.Reads as reads
@@ -5,50 +11,41 @@ use Rattle.background.proofs.run.Lts as lts
 use Rattle.background.proofs.put_column.Reads as put-column-reads
 
 abbrev Inv-loop : tie.InvT-loop
-Inv-loop table nametables s column n row₀ at t₀ row t = ?
+Inv-loop table nametables s column n row₀ at t₀ row t = (t ≤ n) × (length row ≡ 264) × (row ≡ storeTab (stripPixel table nametables s column) (8 * at) (8 * t) row₀)
 
 abbrev μ-loop : tie.MeasureT-loop
-μ-loop table nametables s column n row₀ at t₀ row t = ?
+μ-loop table nametables s column n row₀ at t₀ row t = n - t
 
--- src/lib.rt:78:5
 loop-holds : tie.Need-loop-holds Inv-loop μ-loop
-loop-holds c = ?
+unfolding storeTab
+loop-holds c = (search needs, search needs, refl)
 
--- src/lib.rt:79:42
 add-put-column : tie.Need-add-put-column Inv-loop μ-loop
-add-put-column c = ?
+add-put-column c = search needs
 
--- src/lib.rt:79:64
 add-put-column-2 : tie.Need-add-put-column-2 Inv-loop μ-loop
-add-put-column-2 c = ?
+add-put-column-2 c = search needs
 
--- src/lib.rt:79:59
 mul-put-column : tie.Need-mul-put-column Inv-loop μ-loop
-mul-put-column c = ?
+mul-put-column c = search needs
 
--- src/lib.rt:79:9
 put-column-requires : tie.Need-put-column-requires Inv-loop μ-loop
-put-column-requires c κs = ?
+put-column-requires c κs = search needs
 
--- src/lib.rt:80:9
 add-t : tie.Need-add-t Inv-loop μ-loop
-add-t c = ?
+add-t c = search needs
 
--- src/lib.rt:78:5
 loop-less : tie.Need-loop-less Inv-loop μ-loop
-loop-less c = ?
+loop-less c = search needs
 
--- src/lib.rt:78:5
 loop-again : tie.Need-loop-again Inv-loop μ-loop
-loop-again c = ?
+loop-again c = (search needs, search needs, search run-more)
 
--- src/lib.rt:73:1
 same-length : tie.Need-same-length Inv-loop μ-loop
-same-length c = ?
+same-length c = search needs
 
--- src/lib.rt:73:1
 returns : tie.Need-returns Inv-loop μ-loop
-returns c = ?
+returns c = search run-done
 
 pub run-spec : {M : Type 1} → statement M
 run-spec =

@@ -1,49 +1,50 @@
+use Prim.Native.Nat.{ℕ, _+_, _-_, _≤_}
+use mathlib.Core.Path.{_≡_, refl}
+use mathlib.Core.List.{_++_}
+use native.Mathlib.Omega.{arith}
+use lib.ListN.{length, getD, length-set, drop}
+use Rattle.model.specs.Line.{tab}
+use Rattle.model.proofs.Tab.{tab-none}
+use Rattle.background.specs.Strips.{shifted}
+use Rattle.background.proofs.Cases.{shift-more, shift-done}
+use borrow.Author.Needs.{needs}
 use Rattle.background.proofs.shift.Statement.{statement}
 use Rattle.background.proofs.shift.Tie as tie
 use Rattle.background.proofs.shift.Reads as reads
 use Rattle.background.proofs.shift.Lts as lts
 
 abbrev Inv-loop : tie.InvT-loop
-Inv-loop row x line₀ p₀ line p = ?
+Inv-loop row x line₀ p₀ line p = (p ≤ 256) × (length line ≡ 256) × (line ≡ tab (shifted row x) p ++ drop p line₀)
 
 abbrev μ-loop : tie.MeasureT-loop
-μ-loop row x line₀ p₀ line p = ?
+μ-loop row x line₀ p₀ line p = 256 - p
 
--- src/lib.rt:127:5
 loop-holds : tie.Need-loop-holds Inv-loop μ-loop
-loop-holds c = ?
+loop-holds c = (search needs, search needs, tab-none _ _)
 
--- src/lib.rt:128:23
 add-line : tie.Need-add-line Inv-loop μ-loop
-add-line c = ?
+add-line c = search needs
 
--- src/lib.rt:128:19
 shared-slice-read-line : tie.Need-shared-slice-read-line Inv-loop μ-loop
-shared-slice-read-line c = ?
+shared-slice-read-line c = search needs
 
--- src/lib.rt:128:9
 slice-write-line : tie.Need-slice-write-line Inv-loop μ-loop
-slice-write-line c = ?
+slice-write-line c = search needs
 
--- src/lib.rt:129:9
 add-p : tie.Need-add-p Inv-loop μ-loop
-add-p c = ?
+add-p c = search needs
 
--- src/lib.rt:127:5
 loop-less : tie.Need-loop-less Inv-loop μ-loop
-loop-less c = ?
+loop-less c = search needs
 
--- src/lib.rt:127:5
 loop-again : tie.Need-loop-again Inv-loop μ-loop
-loop-again c = ?
+loop-again c = (search needs, simp length-set (search needs), search shift-more)
 
--- src/lib.rt:122:1
 same-length : tie.Need-same-length Inv-loop μ-loop
-same-length c = ?
+same-length c = search needs
 
--- src/lib.rt:122:1
 returns : tie.Need-returns Inv-loop μ-loop
-returns c = ?
+returns c = search shift-done
 
 pub shift-spec : {M : Type 1} → statement M
 shift-spec =

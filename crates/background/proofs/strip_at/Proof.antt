@@ -1,58 +1,48 @@
+use native.Mathlib.Omega.{arith}
+use Rattle.background.proofs.Cases.{strip-cases}
 use borrow.Author.Needs.{needs}
 use Rattle.background.proofs.strip_at.Statement.{statement}
 use Rattle.background.proofs.strip_at.Tie as tie
 use Rattle.background.proofs.strip_at.Reads as reads
 use Rattle.background.proofs.strip_at.Lts as lts
-use Rattle.background.proofs.page.Reads as page-reads
+use Rattle.memory.proofs.page.Reads as page-reads
 use Rattle.bits.proofs.low.Reads as low-reads
 
--- src/lib.rt:50:23
 page-requires : tie.Need-page-requires
 page-requires c κs = search needs
 
--- src/lib.rt:50:16
 mul-base : tie.Need-mul-base
 mul-base c = search needs
 
--- src/lib.rt:51:9
 low-requires : tie.Need-low-requires
 low-requires c κs = search needs
 
--- src/lib.rt:53:23
 mul-t6 : tie.Need-mul-t6
 mul-t6 c = search needs
 
--- src/lib.rt:53:16
 add-t7 : tie.Need-add-t7
 add-t7 c = search needs
 
--- src/lib.rt:54:21
 add-t8 : tie.Need-add-t8
 add-t8 c = search needs
 
--- src/lib.rt:54:34
 mul-t10 : tie.Need-mul-t10
 mul-t10 c = search needs
 
--- src/lib.rt:54:21
 add-t11 : tie.Need-add-t11
 add-t11 c = search needs
 
--- src/lib.rt:55:19
 low-requires-2 : tie.Need-low-requires-2
 low-requires-2 c κs = search needs
 
--- src/lib.rt:55:15
 mul-t14 : tie.Need-mul-t14
 mul-t14 c = search needs
 
--- src/lib.rt:56:15
 low-requires-3 : tie.Need-low-requires-3
 low-requires-3 c κs = search needs
 
--- src/lib.rt:46:1
 returns : tie.Need-returns
-returns c = ?
+returns c = (search strip-cases, record { tiles = omega arith; attributes = omega arith; half = omega arith; fine = omega arith })
 
 pub strip-at-spec : {M : Type 1} → statement M
 strip-at-spec =
