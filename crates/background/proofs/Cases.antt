@@ -6,24 +6,25 @@ use mathlib.Core.List.{List, _++_}
 use native.Mathlib.Omega.{arith}
 use lib.ListN.{length, getD, set, drop}
 use Rattle.model.specs.declared.Wiring.{Wiring}
+use Rattle.model.specs.Unit.{lineLength}
 use Rattle.model.specs.Address.{pageAt, wiringNumber, tableOf}
 use Rattle.model.specs.Scroll.{fineY, nametable, row, column}
 use Rattle.model.specs.Background.{numberOf, colourOf, backgroundAt}
 use Rattle.model.specs.Line.{tab}
 use Rattle.model.proofs.Tab.{tab-more, tab-done}
 use Rattle.background.specs.declared.Strip.{Strip}
-use Rattle.background.specs.Strips.{storeTab, stripOf, paletteOf, columnPixel, stripPixel, besideOf, shifted}
+use Rattle.background.specs.Strips.{storeTab, rowLength, stripOf, paletteOf, columnPixel, stripPixel, besideOf, shifted}
 use Rattle.background.proofs.Strips.{store-cong, store-split, two-runs, line-is}
 
 module _ (w : Wiring) (q v p r h f : ℕ) (s : Strip) where
   pub strip-1 : p ≡ pageAt (wiringNumber w) q → r ≡ row v → h ≡ r / 2 % 2 → f ≡ fineY v
-      → s ≡ record { tiles = 1024 * p + 32 * r; attributes = 1024 * p + 960 + 8 * (r / 4); half = 4 * h; fine = f } → s ≡ stripOf w q v
+      → s ≡ record { tiles = 1024 * p + 32 * r; attributes = 1024 * p + 960 + 8 * (r / 4); quadrant = 4 * h; fine = f } → s ≡ stripOf w q v
   strip-1 a b c d e = e ∙ rw (d, c, b, a)
 
 pub ruleset strip-cases = (strip-1)
 
 module _ (n : List ℕ) (s : Strip) (c h r : ℕ) where
-  pub palette-1 : h ≡ c / 2 % 2 → r ≡ getD n (s .attributes + c / 4) 0 / 2 ^ (s .half + 2 * h) % 4 → r ≡ paletteOf n s c
+  pub palette-1 : h ≡ c / 2 % 2 → r ≡ getD n (s .attributes + c / 4) 0 / 2 ^ (s .quadrant + 2 * h) % 4 → r ≡ paletteOf n s c
   unfolding paletteOf
   palette-1 a e = e ∙ rw a
 
@@ -63,21 +64,21 @@ pub ruleset run-cases = (run-more, run-done)
 
 module _ (b l l′ : List ℕ) (x p : ℕ) where
   -- one pixel more
-  pub shift-more : length l ≡ 256 → p < 256 → l′ ≡ tab (shifted b x) p ++ drop p l
+  pub shift-more : length l ≡ lineLength → p < lineLength → l′ ≡ tab (shifted b x) p ++ drop p l
       → set l′ p (getD b (x + p) 0) ≡ tab (shifted b x) (p + 1) ++ drop (p + 1) l
   unfolding shifted
   shift-more h i e = tab-more (shifted b x) p l l′ _ (omega arith) e refl
 
-  pub shift-done : length l ≡ 256 → p ≤ 256 → 256 ≤ p → l′ ≡ tab (shifted b x) p ++ drop p l → l′ ≡ tab (shifted b x) 256
-  shift-done h i j e = tab-done _ p 256 l l′ (omega arith) h e
+  pub shift-done : length l ≡ lineLength → p ≤ lineLength → lineLength ≤ p → l′ ≡ tab (shifted b x) p ++ drop p l → l′ ≡ tab (shifted b x) lineLength
+  shift-done h i j e = tab-done _ p lineLength l l′ (omega arith) h e
 
 pub ruleset shift-cases = (shift-more, shift-done)
 
 module _ (w : Wiring) (n table l l₁ l₂ : List ℕ) (v c q o : ℕ) (here there : Strip) where
-  pub tiles-1 : c ≡ column v → q ≡ nametable v → o ≡ besideOf q → here ≡ stripOf w q v → there ≡ stripOf w o v → length l ≡ 264
+  pub tiles-1 : c ≡ column v → q ≡ nametable v → o ≡ besideOf q → here ≡ stripOf w q v → there ≡ stripOf w o v → length l ≡ rowLength
       → l₁ ≡ storeTab (stripPixel table n here c) (8 * 0) (8 * (32 - c)) l
       → l₂ ≡ storeTab (stripPixel table n there 0) (8 * (32 - c)) (8 * (c + 1)) l₁
-      → l₂ ≡ tab (backgroundAt w n table v 0) 264
+      → l₂ ≡ tab (backgroundAt w n table v 0) rowLength
   tiles-1 a b d e f h i j =
       two-runs w n table l l₁ l₂ v (32 - column v) refl h (i ∙ rw (e, b, a)) (j ∙ rw (f, d, b, a))
 
@@ -93,7 +94,7 @@ module _ (w : Wiring) (n left right l : List ℕ) (v m : ℕ) (second : Bool) wh
 pub ruleset tiles-of-cases = (tiles-of-1, tiles-of-2)
 
 module _ (w : Wiring) (n table b l : List ℕ) (v x k : ℕ) where
-  pub background-1 : x < 8 → k ≡ x → b ≡ tab (backgroundAt w n table v 0) 264 → l ≡ tab (shifted b k) 256 → l ≡ tab (backgroundAt w n table v x) 256
+  pub background-1 : x < 8 → k ≡ x → b ≡ tab (backgroundAt w n table v 0) rowLength → l ≡ tab (shifted b k) lineLength → l ≡ tab (backgroundAt w n table v x) lineLength
   background-1 h i d e = e ∙ rw i (line-is w n table b v x h d)
 
 pub ruleset background-cases = (background-1)

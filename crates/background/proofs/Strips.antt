@@ -7,6 +7,7 @@ use native.Mathlib.Numerals.{add-one}
 use native.Mathlib.Nat.{add-zero, add-suc, add-assoc, zero-add, mul-comm}
 use lib.ListN.{length, getD, set, drop}
 use Rattle.model.specs.declared.Wiring.{Wiring}
+use Rattle.model.specs.Unit.{lineLength}
 use Rattle.model.specs.Address.{pageAt, wiringNumber, cellOf}
 use Rattle.model.specs.Scroll.{fineY, nametable, row, column, turn10, rightBy}
 use Rattle.model.specs.Background.{tileAt, attributeAddress, attributeAt, lowAt, highAt, tilePixel, backgroundAt}
@@ -14,7 +15,7 @@ use Rattle.model.specs.Line.{tab}
 use Rattle.model.proofs.Scroll.{by-in, by-out}
 use Rattle.model.proofs.Tab.{tab-none, tab-more, tab-done, tab-cong, getD-tab}
 use Rattle.background.specs.declared.Strip.{Strip}
-use Rattle.background.specs.Strips.{storeTab, stripOf, paletteOf, columnPixel, stripPixel, besideOf, shifted}
+use Rattle.background.specs.Strips.{storeTab, rowLength, stripOf, paletteOf, columnPixel, stripPixel, besideOf, shifted}
 
 -- TEMPORARY
 pub store-cong : (f g : ℕ → ℕ) (at n : ℕ) (l : List ℕ) → ((j : ℕ) → j < n → f j ≡ g j) → storeTab f at n l ≡ storeTab g at n l
@@ -155,15 +156,15 @@ run-out w n table v m i e h =
     (column-of w n table (turn10 (v - column v) + i / 8) v (i % 8) (besideOf (nametable v)) (i / 8) (out-quarter v (i / 8) t) (out-row v (i / 8) t) (out-fine v (i / 8) t) (out-column v (i / 8) t))
 
 -- both runs
-pub two-runs : (w : Wiring) (n table l l₁ l₂ : List ℕ) (v m : ℕ) → m ≡ 32 - column v → length l ≡ 264
+pub two-runs : (w : Wiring) (n table l l₁ l₂ : List ℕ) (v m : ℕ) → m ≡ 32 - column v → length l ≡ rowLength
     → l₁ ≡ storeTab (stripPixel table n (stripOf w (nametable v) v) (column v)) 0 (8 * m) l
     → l₂ ≡ storeTab (stripPixel table n (stripOf w (besideOf (nametable v)) v) 0) (8 * m) (8 * (column v + 1)) l₁
-    → l₂ ≡ tab (backgroundAt w n table v 0) 264
+    → l₂ ≡ tab (backgroundAt w n table v 0) rowLength
 two-runs w n table l l₁ l₂ v m e h e₁ e₂ =
     let f = backgroundAt w n table v 0 in
     let f₁ : l₁ ≡ tab f (0 + 8 * m) ++ drop (0 + 8 * m) l = e₁ ∙ tile-more f _ 0 (8 * m) l l (omega arith) (tab-none f l) (λ i lt. rw (zero-add i) (run-in w n table v i (omega arith))) in
     let f₂ : l₁ ≡ tab f (8 * m) ++ drop (8 * m) l = rw (zero-add (8 * m)) at f₁ in
-    tab-done f (8 * m + 8 * (column v + 1)) 264 l l₂ (omega arith) h
+    tab-done f (8 * m + 8 * (column v + 1)) rowLength l l₂ (omega arith) h
     (e₂ ∙ tile-more f _ (8 * m) (8 * (column v + 1)) l l₁ (omega arith) f₂ (λ i lt. run-out w n table v m i e (omega arith)))
 
 -- the line is the row from column x on
@@ -171,8 +172,8 @@ from-x : (w : Wiring) (n table : List ℕ) (v x p : ℕ) → backgroundAt w n ta
 unfolding backgroundAt
 from-x w n table v x p = rw (zero-add (x + p))
 
-pub line-is : (w : Wiring) (n table b : List ℕ) (v x : ℕ) → x < 8 → b ≡ tab (backgroundAt w n table v 0) 264
-    → tab (shifted b x) 256 ≡ tab (backgroundAt w n table v x) 256
+pub line-is : (w : Wiring) (n table b : List ℕ) (v x : ℕ) → x < 8 → b ≡ tab (backgroundAt w n table v 0) rowLength
+    → tab (shifted b x) lineLength ≡ tab (backgroundAt w n table v x) lineLength
 unfolding shifted
 line-is w n table b v x h e =
-    tab-cong _ _ 256 (λ p lt. rw e (getD-tab (backgroundAt w n table v 0) 264 (x + p) (omega arith) ∙ from-x w n table v x p))
+    tab-cong _ _ lineLength (λ p lt. rw e (getD-tab (backgroundAt w n table v 0) rowLength (x + p) (omega arith) ∙ from-x w n table v x p))

@@ -13,24 +13,28 @@ unfoldable pub storeTab : (ℕ → ℕ) → ℕ → ℕ → List ℕ → List �
 storeTab g at zero l = l
 storeTab g at (suc n) l = set (storeTab g at n l) (at + n) (g n)
 
--- the strip of v in the page of quarter q
+-- 33 tiles of eight pixels: a line of 256 begins in one of the first eight
+abbrev pub rowLength : ℕ
+rowLength = 264
+
+-- v's row of tiles in the page of quarter q
 abbrev pub stripOf : Wiring → ℕ → ℕ → Strip
 stripOf w q v = record
   { tiles = 1024 * pageAt (wiringNumber w) q + 32 * row v
   ; attributes = 1024 * pageAt (wiringNumber w) q + 960 + 8 * (row v / 4)
-  ; half = 4 * (row v / 2 % 2)
+  ; quadrant = 4 * (row v / 2 % 2)
   ; fine = fineY v }
 
--- a strip of 32 columns that lies in nametable RAM, and a row of pixels in a tile
-pub record InPage (s : Strip) : Type 0 where
-  pub tiles : s .tiles ≤ 2016
-  pub attributes : s .attributes ≤ 2040
-  pub half : s .half ≤ 4
+-- its 32 tile numbers and eight attribute bytes lie in nametable RAM of length m
+pub record Within (s : Strip) (m : ℕ) : Type 0 where
+  pub tiles : s .tiles + 32 ≤ m
+  pub attributes : s .attributes + 8 ≤ m
+  pub quadrant : s .quadrant ≤ 4
   pub fine : s .fine < 8
 
 -- the palette of column c: two bits of its attribute byte
 unfoldable pub paletteOf : List ℕ → Strip → ℕ → ℕ
-paletteOf n s c = getD n (s .attributes + c / 4) 0 / 2 ^ (s .half + 2 * (c / 2 % 2)) % 4
+paletteOf n s c = getD n (s .attributes + c / 4) 0 / 2 ^ (s .quadrant + 2 * (c / 2 % 2)) % 4
 
 -- pixel j of the tile in column c, from the left
 unfoldable pub columnPixel : List ℕ → List ℕ → Strip → ℕ → ℕ → ℕ

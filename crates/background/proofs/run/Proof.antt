@@ -1,7 +1,7 @@
 use Prim.Native.Nat.{_+_, _-_, _*_, _≤_}
 use mathlib.Core.Path.{_≡_, refl}
 use lib.ListN.{length}
-use Rattle.background.specs.Strips.{storeTab, stripPixel}
+use Rattle.background.specs.Strips.{storeTab, rowLength, stripPixel}
 use Rattle.background.proofs.Cases.{run-more, run-done}
 use borrow.Author.Needs.{needs}
 use Rattle.background.proofs.run.Statement.{statement}
@@ -11,7 +11,7 @@ use Rattle.background.proofs.run.Lts as lts
 use Rattle.background.proofs.put_column.Reads as put-column-reads
 
 abbrev Inv-loop : tie.InvT-loop
-Inv-loop table nametables s column n row₀ at t₀ row t = (t ≤ n) × (length row ≡ 264) × (row ≡ storeTab (stripPixel table nametables s column) (8 * at) (8 * t) row₀)
+Inv-loop table nametables s column n row₀ at t₀ row t = (t ≤ n) × (length row ≡ rowLength) × (row ≡ storeTab (stripPixel table nametables s column) (8 * at) (8 * t) row₀)
 
 abbrev μ-loop : tie.MeasureT-loop
 μ-loop table nametables s column n row₀ at t₀ row t = n - t
