@@ -12,9 +12,11 @@ use Rattle.model.specs.Scroll.{fineY, nametable, row, column}
 use Rattle.model.specs.Background.{numberOf, colourOf, backgroundAt}
 use Rattle.model.specs.Line.{tab}
 use Rattle.model.proofs.Tab.{tab-more, tab-done}
+use Rattle.pixels.specs.Row.{storeTab}
+use Rattle.pixels.proofs.Store.{store-cong, store-split}
 use Rattle.background.specs.declared.Strip.{Strip}
-use Rattle.background.specs.Strips.{storeTab, rowLength, stripOf, paletteOf, columnPixel, stripPixel, besideOf, shifted}
-use Rattle.background.proofs.Strips.{store-cong, store-split, two-runs, line-is}
+use Rattle.background.specs.Strips.{rowLength, stripOf, paletteOf, columnPixel, stripPixel, besideOf, shifted}
+use Rattle.background.proofs.Strips.{two-runs, line-is}
 
 module _ (w : Wiring) (q v p r h f : ℕ) (s : Strip) where
   pub strip-1 : p ≡ pageAt (wiringNumber w) q → r ≡ row v → h ≡ r / 2 % 2 → f ≡ fineY v

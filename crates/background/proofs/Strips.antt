@@ -14,27 +14,10 @@ use Rattle.model.specs.Background.{tileAt, attributeAddress, attributeAt, lowAt
 use Rattle.model.specs.Line.{tab}
 use Rattle.model.proofs.Scroll.{by-in, by-out}
 use Rattle.model.proofs.Tab.{tab-none, tab-more, tab-done, tab-cong, getD-tab}
+use Rattle.pixels.specs.Row.{storeTab}
+use Rattle.pixels.proofs.Store.{tile-more}
 use Rattle.background.specs.declared.Strip.{Strip}
-use Rattle.background.specs.Strips.{storeTab, rowLength, stripOf, paletteOf, columnPixel, stripPixel, besideOf, shifted}
-
--- TEMPORARY
-pub store-cong : (f g : ℕ → ℕ) (at n : ℕ) (l : List ℕ) → ((j : ℕ) → j < n → f j ≡ g j) → storeTab f at n l ≡ storeTab g at n l
-unfolding storeTab
-store-cong f g at zero l h = refl
-store-cong f g at (suc n) l h = rw (store-cong f g at n l (λ j lt. h j (omega arith)), h n (omega arith))
-
-pub tile-more : (f g : ℕ → ℕ) (at n : ℕ) (l l′ : List ℕ) → at + n ≤ length l → l′ ≡ tab f at ++ drop at l → ((j : ℕ) → j < n → g j ≡ f (at + j)) → storeTab g at n l′ ≡ tab f (at + n) ++ drop (at + n) l
-unfolding storeTab
-tile-more f g at zero l l′ h e k = rw (add-zero at) e
-tile-more f g at (suc n) l l′ h e k =
-    rw (add-suc at n, ← add-one (at + n))
-    (tab-more f (at + n) l (storeTab g at n l′) (g n) (omega arith) (tile-more f g at n l l′ (omega arith) e (λ j lt. k j (omega arith))) (k n (omega arith)))
-
-pub store-split : (g : ℕ → ℕ) (at m n : ℕ) (l : List ℕ) → storeTab g at (m + n) l ≡ storeTab (λ (j : ℕ). g (m + j)) (at + m) n (storeTab g at m l)
-unfolding storeTab
-store-split g at m zero l = rw (add-zero m)
-store-split g at m (suc n) l = rw (add-suc m n, store-split g at m n l, add-assoc at m n)
--- END
+use Rattle.background.specs.Strips.{rowLength, stripOf, paletteOf, columnPixel, stripPixel, besideOf, shifted}
 
 -- the tile number's address and the attribute byte's: their quarter, and their place in the page
 tile-quarter : (v : ℕ) → (8192 + v % 4096) / 1024 % 4 ≡ nametable v

@@ -1,17 +1,12 @@
 -- A strip: a row of tiles in one page of nametable RAM, met by a line. What its columns show.
-use Prim.Native.Nat.{ℕ, zero, suc, _+_, _-_, _*_, _/_, _%_, _^_, _<_, _≤_}
+use Prim.Native.Nat.{ℕ, _+_, _-_, _*_, _/_, _%_, _^_, _<_, _≤_}
 use mathlib.Core.List.{List}
-use lib.ListN.{getD, set}
+use lib.ListN.{getD}
 use Rattle.model.specs.declared.Wiring.{Wiring}
 use Rattle.model.specs.Address.{pageAt, wiringNumber}
 use Rattle.model.specs.Scroll.{fineY, row}
 use Rattle.model.specs.Background.{colourOf, numberOf}
 use Rattle.background.specs.declared.Strip.{Strip}
-
--- TEMPORARY
-unfoldable pub storeTab : (ℕ → ℕ) → ℕ → ℕ → List ℕ → List ℕ
-storeTab g at zero l = l
-storeTab g at (suc n) l = set (storeTab g at n l) (at + n) (g n)
 
 -- 33 tiles of eight pixels: a line of 256 begins in one of the first eight
 abbrev pub rowLength : ℕ

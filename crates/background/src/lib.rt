@@ -4,14 +4,14 @@
 // beside, tiles, tiles_of: both strips into a row of pixels, out of one pattern table or the chosen one.
 // shift, background: the row from fine x on is the line.
 ghost use mathlib.Core.Path.{_≡_};
-ghost use Prim.Native.Nat.{ℕ, _+_, _-_, _*_, _<_, _≤_};
+ghost use Prim.Native.Nat.{_+_, _*_, _<_, _≤_};
 ghost use lib.ListN.{length};
 ghost use Rattle.model.specs.Unit.{patternLength, nametableLength, lineLength};
 ghost use Rattle.model.specs.Address.{tableOf};
-ghost use Rattle.model.specs.Background.{numberOf, colourOf, backgroundAt};
+ghost use Rattle.model.specs.Background.{backgroundAt};
 ghost use Rattle.model.specs.Line.{tab};
+ghost use Rattle.pixels.specs.Row.{storeTab};
 ghost use Rattle.background.specs.Strips.{
-  storeTab,
   rowLength,
   stripOf,
   Within,
@@ -25,6 +25,7 @@ use bits::field;
 use bits::low;
 use bits::wide;
 use model::Board;
+use pixels::put_tile;
 
 // A row of tiles in one page of nametable RAM.
 pub struct Strip {
@@ -35,13 +36,6 @@ pub struct Strip {
     pub quadrant: usize,
     // fine y
     pub fine: usize,
-}
-
-fn put_tile(row: &mut [u8], at: usize, low: u8, high: u8, palette: u8)
-    requires { ⌜ (at + 8 ≤ length (now row)) × (palette < 4) ⌝ }
-    ensures { λ _. ⌜ now (row .exit) ≡ storeTab (λ (j : ℕ). numberOf palette (colourOf low high (7 - j))) at 8 (now (row .entry)) ⌝ }
-{
-    row[at] = low;
 }
 
 // v's row of tiles in the page of a quarter.

@@ -5,7 +5,7 @@ use Rattle.background.proofs.put_column.Tie as tie
 use Rattle.background.proofs.put_column.Reads as reads
 use Rattle.background.proofs.put_column.Lts as lts
 use Rattle.background.proofs.palette_at.Reads as palette-at-reads
-use Rattle.background.proofs.put_tile.Reads as put-tile-reads
+use Rattle.pixels.proofs.put_tile.Reads as put-tile-reads
 use Rattle.bits.proofs.wide.Reads as wide-reads
 
 add-wide : tie.Need-add-wide
@@ -26,14 +26,14 @@ mul-byte c = search needs
 add-byte : tie.Need-add-byte
 add-byte c = search needs
 
-shared-slice-read-put-tile : tie.Need-shared-slice-read-put-tile
-shared-slice-read-put-tile c = search needs
+shared-slice-read-plane0 : tie.Need-shared-slice-read-plane0
+shared-slice-read-plane0 c = search needs
 
-add-put-tile : tie.Need-add-put-tile
-add-put-tile c = search needs
+add-plane1 : tie.Need-add-plane1
+add-plane1 c = search needs
 
-shared-slice-read-put-tile-2 : tie.Need-shared-slice-read-put-tile-2
-shared-slice-read-put-tile-2 c = search needs
+shared-slice-read-plane1 : tie.Need-shared-slice-read-plane1
+shared-slice-read-plane1 c = search needs
 
 put-tile-requires : tie.Need-put-tile-requires
 put-tile-requires c κs = search needs
@@ -54,9 +54,9 @@ put-column-spec =
     palette-at-requires
     mul-byte
     add-byte
-    shared-slice-read-put-tile
-    add-put-tile
-    shared-slice-read-put-tile-2
+    shared-slice-read-plane0
+    add-plane1
+    shared-slice-read-plane1
     put-tile-requires
     same-length
     returns)

@@ -1,7 +1,8 @@
 use Prim.Native.Nat.{_+_, _-_, _*_, _≤_}
 use mathlib.Core.Path.{_≡_, refl}
 use lib.ListN.{length}
-use Rattle.background.specs.Strips.{storeTab, rowLength, stripPixel}
+use Rattle.pixels.specs.Row.{storeTab}
+use Rattle.background.specs.Strips.{rowLength, stripPixel}
 use Rattle.background.proofs.Cases.{run-more, run-done}
 use borrow.Author.Needs.{needs}
 use Rattle.background.proofs.run.Statement.{statement}
