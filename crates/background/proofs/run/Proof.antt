@@ -1,0 +1,66 @@
+use Prim.Native.Nat.{_+_, _-_, _*_, _≤_}
+use mathlib.Core.Path.{_≡_, refl}
+use lib.ListN.{length}
+use Rattle.pixels.specs.Row.{storeTab}
+use Rattle.background.specs.Strips.{rowLength, stripPixel}
+use Rattle.background.proofs.Cases.{run-more, run-done}
+use borrow.Author.Needs.{needs}
+use Rattle.background.proofs.run.Statement.{statement}
+use Rattle.background.proofs.run.Tie as tie
+use Rattle.background.proofs.run.Reads as reads
+use Rattle.background.proofs.run.Lts as lts
+use Rattle.background.proofs.put_column.Reads as put-column-reads
+
+abbrev Inv-loop : tie.InvT-loop
+Inv-loop table nametables s column n row₀ at t₀ row t = (t ≤ n) × (length row ≡ rowLength) × (row ≡ storeTab (stripPixel table nametables s column) (8 * at) (8 * t) row₀)
+
+abbrev μ-loop : tie.MeasureT-loop
+μ-loop table nametables s column n row₀ at t₀ row t = n - t
+
+loop-holds : tie.Need-loop-holds Inv-loop μ-loop
+unfolding storeTab
+loop-holds c = (search needs, search needs, refl)
+
+add-put-column : tie.Need-add-put-column Inv-loop μ-loop
+add-put-column c = search needs
+
+add-put-column-2 : tie.Need-add-put-column-2 Inv-loop μ-loop
+add-put-column-2 c = search needs
+
+mul-put-column : tie.Need-mul-put-column Inv-loop μ-loop
+mul-put-column c = search needs
+
+put-column-requires : tie.Need-put-column-requires Inv-loop μ-loop
+put-column-requires c κs = search needs
+
+add-t : tie.Need-add-t Inv-loop μ-loop
+add-t c = search needs
+
+loop-less : tie.Need-loop-less Inv-loop μ-loop
+loop-less c = search needs
+
+loop-again : tie.Need-loop-again Inv-loop μ-loop
+loop-again c = (search needs, search needs, search run-more)
+
+same-length : tie.Need-same-length Inv-loop μ-loop
+same-length c = search needs
+
+returns : tie.Need-returns Inv-loop μ-loop
+returns c = search run-done
+
+pub run-spec : {M : Type 1} → statement M
+run-spec =
+    tie.close
+    (tie.spec
+    Inv-loop
+    μ-loop
+    loop-holds
+    add-put-column
+    add-put-column-2
+    mul-put-column
+    put-column-requires
+    add-t
+    loop-less
+    loop-again
+    same-length
+    returns)

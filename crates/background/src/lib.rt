@@ -1,0 +1,162 @@
+// The background of one line, a tile at a time. Inner functions, not public calls: they require lengths and bounds.
+// A line meets 33 tiles, in two strips: from v's column to the end of its nametable, then in the nametable beside.
+// strip_at: what is the same for all tiles of a strip. palette_at, put_column, run: one tile of a strip, then n tiles.
+// beside, tiles, tiles_of: both strips into a row of pixels, out of one pattern table or the chosen one.
+// shift, background: the row from fine x on is the line.
+ghost use mathlib.Core.Path.{_≡_};
+ghost use Prim.Native.Nat.{_+_, _*_, _<_, _≤_};
+ghost use lib.ListN.{length};
+ghost use Rattle.model.specs.Unit.{patternLength, nametableLength, lineLength};
+ghost use Rattle.model.specs.Address.{tableOf};
+ghost use Rattle.model.specs.Background.{backgroundAt};
+ghost use Rattle.model.specs.Line.{tab};
+ghost use Rattle.pixels.specs.Row.{storeTab};
+ghost use Rattle.background.specs.Strips.{
+  rowLength,
+  stripOf,
+  Within,
+  paletteOf,
+  columnPixel,
+  stripPixel,
+  besideOf,
+  shifted,
+};
+use bits::field;
+use bits::low;
+use bits::wide;
+use model::Board;
+use pixels::put_tile;
+
+// A row of tiles in one page of nametable RAM.
+pub struct Strip {
+    // where its tile numbers begin, and where its attribute bytes
+    pub tiles: usize,
+    pub attributes: usize,
+    // the shift to the attribute bits of the upper or lower quadrants: 0 or 4
+    pub quadrant: usize,
+    // fine y
+    pub fine: usize,
+}
+
+// v's row of tiles in the page of a quarter.
+fn strip_at(board: Board, quarter: usize, v: usize) -> Strip
+    requires { ⌜ quarter < 4 ⌝ }
+    ensures { λ r. ⌜ (r ≡ stripOf (board .wiring) quarter v) × Within r (nametableLength board) ⌝ }
+{
+    let wiring = board.wiring;
+    let base = 1024 * memory::page(wiring, quarter);
+    let row = low(v >> 5, 5);
+    let tiles = base + 32 * row;
+    let attributes = base + 960 + 8 * (row >> 2);
+    let quadrant = 4 * low(row >> 1, 1);
+    let fine = low(v >> 12, 3);
+    Strip { tiles, attributes, quadrant, fine }
+}
+
+// The palette of the tile in a column: two bits of its attribute byte.
+fn palette_at(nametables: &[u8], s: Strip, column: usize) -> u8
+    requires { ⌜ Within s (length (now nametables)) × (column < 32) ⌝ }
+    ensures { λ r. ⌜ (r ≡ paletteOf (now (nametables .entry)) s column) × (r < 4) ⌝ }
+{
+    let attribute = nametables[s.attributes + (column >> 2)];
+    field(attribute, s.quadrant + 2 * low(column >> 1, 1), 2)
+}
+
+// Eight pixels of the tile in a column.
+fn put_column(table: &[u8], nametables: &[u8], s: Strip, column: usize, row: &mut [u8], at: usize)
+    requires { ⌜ (length (now table) ≡ patternLength) × Within s (length (now nametables)) × (column < 32) × (at + 8 ≤ length (now row)) ⌝ }
+    ensures { λ _. ⌜ now (row .exit) ≡ storeTab (columnPixel (now (table .entry)) (now (nametables .entry)) s column) at 8 (now (row .entry)) ⌝ }
+{
+    let tile = wide(nametables[s.tiles + column]);
+    let palette = palette_at(nametables, s, column);
+    let byte = 16 * tile + s.fine;
+    let plane0 = table[byte];
+    let plane1 = table[byte + 8];
+    put_tile(row, at, plane0, plane1, palette);
+}
+
+// n tiles from a column on, put into the row from its tile at on.
+fn run(table: &[u8], nametables: &[u8], s: Strip, column: usize, n: usize, row: &mut [u8], at: usize)
+    requires { ⌜ (length (now table) ≡ patternLength) × Within s (length (now nametables)) × (column + n ≤ 32)
+        × (length (now row) ≡ rowLength) × (at + n ≤ 33) ⌝ }
+    ensures { λ _. ⌜ now (row .exit) ≡ storeTab (stripPixel (now (table .entry)) (now (nametables .entry)) s column) (8 * at) (8 * n) (now (row .entry)) ⌝ }
+{
+    let mut t = 0;
+    while t < n {
+        put_column(table, nametables, s, column + t, row, 8 * (at + t));
+        t += 1;
+    }
+}
+
+// The nametable left or right of a quarter.
+fn beside(quarter: usize) -> usize
+    requires { ⌜ quarter < 4 ⌝ }
+    ensures { λ r. ⌜ (r ≡ besideOf quarter) × (r < 4) ⌝ }
+{
+    if low(quarter, 1) == 0 {
+        return quarter + 1;
+    }
+    quarter - 1
+}
+
+// The line's 33 tiles out of a pattern table: the background as with fine x 0.
+fn tiles(board: Board, v: usize, table: &[u8], nametables: &[u8], row: &mut [u8])
+    requires { ⌜ (v < 32768) × (length (now table) ≡ patternLength) × (length (now nametables) ≡ nametableLength board)
+        × (length (now row) ≡ rowLength) ⌝ }
+    ensures { λ _. ⌜ now (row .exit) ≡ tab (backgroundAt (board .wiring) (now (nametables .entry)) (now (table .entry)) v 0) rowLength ⌝ }
+{
+    let column = low(v, 5);
+    let quarter = low(v >> 10, 2);
+    let next = beside(quarter);
+    let here = strip_at(board, quarter, v);
+    let there = strip_at(board, next, v);
+    run(table, nametables, here, column, 32 - column, row, 0);
+    run(table, nametables, there, 0, column + 1, row, 32 - column);
+}
+
+// The same out of the left table or the right.
+fn tiles_of(board: Board, second: bool, v: usize, left: &[u8], right: &[u8], nametables: &[u8], row: &mut [u8])
+    requires { ⌜ (v < 32768) × (length (now left) ≡ patternLength) × (length (now right) ≡ patternLength)
+        × (length (now nametables) ≡ nametableLength board) × (length (now row) ≡ rowLength) ⌝ }
+    ensures { λ _. ⌜ now (row .exit) ≡
+        tab (backgroundAt (board .wiring) (now (nametables .entry)) (tableOf second (now (left .entry)) (now (right .entry))) v 0) rowLength ⌝ }
+{
+    if second {
+        tiles(board, v, right, nametables, row);
+        return;
+    }
+    tiles(board, v, left, nametables, row);
+}
+
+// A line of pixels out of a row, from its pixel x on.
+fn shift(row: &[u8], x: usize, line: &mut [u8])
+    requires { ⌜ (length (now row) ≡ rowLength) × (length (now line) ≡ lineLength) × (x < 8) ⌝ }
+    ensures { λ _. ⌜ now (line .exit) ≡ tab (shifted (now (row .entry)) x) lineLength ⌝ }
+{
+    let mut p = 0;
+    while p < 256 {
+        line[p] = row[x + p];
+        p += 1;
+    }
+}
+
+// The background of a line, column by column as v and fine x scroll it.
+pub fn background(
+    board: Board,
+    second: bool,
+    v: u16,
+    x: u8,
+    left: &[u8],
+    right: &[u8],
+    nametables: &[u8],
+    line: &mut [u8],
+)
+    requires { ⌜ (length (now left) ≡ patternLength) × (length (now right) ≡ patternLength) × (length (now nametables) ≡ nametableLength board)
+        × (length (now line) ≡ lineLength) × (v < 32768) × (x < 8) ⌝ }
+    ensures { λ _. ⌜ now (line .exit) ≡
+        tab (backgroundAt (board .wiring) (now (nametables .entry)) (tableOf second (now (left .entry)) (now (right .entry))) v x) lineLength ⌝ }
+{
+    let mut row = [0u8; 264];
+    tiles_of(board, second, v as usize, left, right, nametables, &mut row);
+    shift(&row, wide(x), line);
+}
