@@ -3,6 +3,7 @@ use Prim.Native.Nat.{ℕ, zero, suc, _+_, _-_, _*_, _/_, _%_, _<_, _≤_}
 use mathlib.Core.Path.{_≡_, refl, ap, sym, _∙_}
 use mathlib.Core.Bool.{Bool, true, false, cond, _&&_}
 use mathlib.Core.List.{List, [], _∷_, _++_}
+use mathlib.Core.Logic.{⊎-elim}
 use native.Mathlib.Omega.{arith}
 use borrow.Author.Tests.{eq-eqb, ne-eqb, le-leb, lt-leb, lt-ltb, le-ltb}
 use lib.Dec.{eqb, ltb, leb}
@@ -13,6 +14,7 @@ use Rattle.model.specs.Unit.{bit}
 use Rattle.model.specs.Address.{tableOf}
 use Rattle.model.specs.Line.{tab}
 use Rattle.model.specs.Sprites.{oamAt, height, covers, placesOf, countOf, rowOf, secondTable, tileOf, patternAt, fetched, overflows}
+use Rattle.model.proofs.Scroll.{lt-or-ge}
 use Rattle.sprites.specs.Distance.{distanceOf, distanceAt, isFrom, near}
 use Rattle.sprites.proofs.Places.{height-le, covers-from, covers-to, y-at, length-places, count-covers, eight-shown}
 
@@ -38,20 +40,20 @@ module _ (n y : ℕ) where
 
 pub ruleset distance-cases = (distance-1, distance-2)
 
-module _ (n d from h : ℕ) where
-  pub counted-1 : d < from → n ≡ cond (isFrom from h d) (n + 1) n
+module _ (d from h : ℕ) where
+  pub near-1 : d < from → 0 ≡ cond (isFrom from h d) 1 0
   unfolding isFrom
-  counted-1 p = rw (lt-leb from d p)
+  near-1 p = rw (lt-leb from d p)
 
-  pub counted-2 : from ≤ d → d - from < h → n + 1 ≡ cond (isFrom from h d) (n + 1) n
+  pub near-2 : from ≤ d → d - from < h → 1 ≡ cond (isFrom from h d) 1 0
   unfolding isFrom
-  counted-2 p q = rw (le-leb from d p, lt-ltb (d - from) h q)
+  near-2 p q = rw (le-leb from d p, lt-ltb (d - from) h q)
 
-  pub counted-3 : from ≤ d → h ≤ d - from → n ≡ cond (isFrom from h d) (n + 1) n
+  pub near-3 : from ≤ d → h ≤ d - from → 0 ≡ cond (isFrom from h d) 1 0
   unfolding isFrom
-  counted-3 p q = rw (le-leb from d p, le-ltb (d - from) h q)
+  near-3 p q = rw (le-leb from d p, le-ltb (d - from) h q)
 
-pub ruleset counted-cases = (counted-1, counted-2, counted-3)
+pub ruleset near-cases = (near-1, near-2, near-3)
 
 module _ (n r : ℕ) where
   pub eight-1 : 8 < n → 8 ≡ cond (ltb 8 n) 8 n
@@ -101,6 +103,21 @@ module _ (c : ℕ) (o : List ℕ) (n i y r g h : ℕ) (e : y ≡ getD o (4 * i) 
   row-6 b d t z = z ∙ rw (sym d ∙ t, w, f, e, y-at o i)
 
 pub ruleset row-cases = (row-1, row-2, row-3, row-4, row-5, row-6)
+
+module _ (c : ℕ) (o : List ℕ) (n i y : ℕ) (e : y ≡ getD o (4 * i) 0) where
+  pub covering-1 : n < y → false ≡ covers c o n i
+  unfolding covers
+  covering-1 p = rw (lt-leb (oamAt o i 0) n (omega (arith, y-at o i)))
+
+  pub covering-2 : (g h : ℕ) → y ≤ n → h ≡ g → g ≡ height c → ltb (n - y) h ≡ covers c o n i
+  unfolding covers
+  covering-2 g h p w f =
+      ⊎-elim
+      (λ (lt : n - y < h). rw (lt-ltb (n - y) h lt, le-leb (oamAt o i 0) n (omega (arith, y-at o i)), lt-ltb n (oamAt o i 0 + height c) (omega (arith, y-at o i))))
+      (λ (ge : h ≤ n - y). rw (le-ltb (n - y) h ge, le-leb (oamAt o i 0) n (omega (arith, y-at o i)), le-ltb n (oamAt o i 0 + height c) (omega (arith, y-at o i))))
+      (lt-or-ge (n - y) h)
+
+pub ruleset covering-cases = (covering-1, covering-2)
 
 module _ (c : ℕ) (o : List ℕ) (i : ℕ) (b r : Bool) (e : b ≡ bit 32 c) where
   pub second-1 : b ≡ true → r ≡ bit 1 (oamAt o i 1) → r ≡ secondTable c o i

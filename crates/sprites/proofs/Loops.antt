@@ -42,10 +42,10 @@ unfolding countOf
 counted-start d from h = record { room = omega arith; few = omega arith; so-far = refl }
 
 module _ (d : List ℕ) (from h n i : ℕ) (m : Counted d from h n i) where
-  pub counted-more : (r : ℕ) → i < 64 → r ≡ cond (isFrom from h (getD d i 0)) (n + 1) n → Counted d from h r (i + 1)
+  pub counted-more : (o : ℕ) → i < 64 → o ≡ cond (isFrom from h (getD d i 0)) 1 0 → Counted d from h (n + o) (i + 1)
   unfolding near
-  counted-more r lt e =
-      let k : r ≡ countOf (near d from h) (i + 1) = count-more (near d from h) i n r (m .so-far) e in
+  counted-more o lt e =
+      let k : n + o ≡ countOf (near d from h) (i + 1) = count-more (near d from h) i n o (m .so-far) e in
       record { room = omega arith; few = rw k (count-le (near d from h) (i + 1)); so-far = k }
 
   pub counted-done : 64 ≤ i → n ≡ countOf (near d from h) 64
@@ -64,14 +64,13 @@ unfolding placesOf
 listed-start d from h l e = record { counted = counted-start d from h; long = e; places = refl }
 
 module _ (d : List ℕ) (from h : ℕ) (l : List ℕ) (n i : ℕ) (m : Listed d from h l n i) where
-  pub listed-more : (k v r : ℕ) → i < 64 → k ≡ n → v ≡ i → r ≡ cond (isFrom from h (getD d i 0)) (n + 1) n → Listed d from h (set l k v) r (i + 1)
+  pub listed-more : (o w : ℕ) → i < 64 → o ≡ cond (isFrom from h (getD d i 0)) 1 0 → w ≡ o → Listed d from h (set l n i) (n + w) (i + 1)
   unfolding near
-  listed-more k v r lt a b e =
-      let g : k < length l = omega (arith, m .long, m .counted .few, m .counted .room) in
+  listed-more o w lt e f =
       record {
-        counted = counted-more d from h n i (m .counted) r lt e;
+        counted = counted-more d from h n i (m .counted) w lt (f ∙ e);
         long = simp length-set (m .long);
-        places = rw a (places-more (near d from h) i n v r l (rw (sym a) g) b (m .places) e);
+        places = places-more (near d from h) i n w l (omega (arith, m .long, m .counted .few)) (m .places) (f ∙ e);
       }
 
   pub listed-done : 64 ≤ i → take (countOf (near d from h) 64) l ≡ placesOf (near d from h) 64

@@ -26,9 +26,31 @@ count-le f (suc n) = by-test (f n) (count-le f n)
     by-test true h = omega arith
     by-test false h = omega arith
 
-pub count-more : (f : ℕ → Bool) (n k r : ℕ) → k ≡ countOf f n → r ≡ cond (f n) (k + 1) k → r ≡ countOf f (n + 1)
+-- one more counts 1 or 0
+pub count-more : (f : ℕ → Bool) (n k o : ℕ) → k ≡ countOf f n → o ≡ cond (f n) 1 0 → k + o ≡ countOf f (n + 1)
 unfolding countOf
-count-more f n k r e d = rw (add-one n, d, e)
+count-more f n k o e d = rw (add-one n, d, e) (by-test (f n))
+  where
+    by-test : (b : Bool) → countOf f n + cond b 1 0 ≡ cond b (countOf f n + 1) (countOf f n)
+    by-test true = refl
+    by-test false = omega arith
+
+-- none is counted: the first is not
+pub count-first : (f : ℕ → Bool) (n : ℕ) → countOf f (suc n) ≡ 0 → f 0 ≡ false
+unfolding countOf
+count-first f zero e = by-test (f 0) e
+  where
+    by-test : (b : Bool) → cond {A = ℕ} b 1 0 ≡ 0 → b ≡ false
+    by-test false e = refl
+    by-test true e = absurd (no e)
+      where
+        no : _≡_ {A = ℕ} 1 0 → ⊥
+        no e = omega arith
+count-first f (suc n) e = count-first f n (by-test (f (suc n)) e)
+  where
+    by-test : (b : Bool) {k : ℕ} → cond b (k + 1) k ≡ 0 → k ≡ 0
+    by-test true e = omega arith
+    by-test false e = e
 
 count-cong : (f g : ℕ → Bool) (n : ℕ) → ((i : ℕ) → i < n → f i ≡ g i) → countOf f n ≡ countOf g n
 unfolding countOf
@@ -41,13 +63,13 @@ places-cong f g zero h = refl
 places-cong f g (suc n) h = rw (places-cong f g n (λ i lt. h i (omega arith)), h n (omega arith))
 
 -- one place more: it is stored, and kept if f has it
-pub places-more : (f : ℕ → Bool) (n k v r : ℕ) (l : List ℕ) → k < length l → v ≡ n → take k l ≡ placesOf f n → r ≡ cond (f n) (k + 1) k → take r (set l k v) ≡ placesOf f (n + 1)
+pub places-more : (f : ℕ → Bool) (n k o : ℕ) (l : List ℕ) → k < length l → take k l ≡ placesOf f n → o ≡ cond (f n) 1 0 → take (k + o) (set l k n) ≡ placesOf f (n + 1)
 unfolding placesOf
-places-more f n k v r l h w e d = rw (add-one n, d, w) (by-test (f n))
+places-more f n k o l h e d = rw (add-one n, d) (by-test (f n))
   where
-    by-test : (b : Bool) → take (cond b (k + 1) k) (set l k n) ≡ cond b (placesOf f n ++ (n ∷ [])) (placesOf f n)
+    by-test : (b : Bool) → take (k + cond b 1 0) (set l k n) ≡ cond b (placesOf f n ++ (n ∷ [])) (placesOf f n)
     by-test true = rw (add-one k, take-suc-set l k n h, e)
-    by-test false = rw (take-set-le k l k n (omega arith), e)
+    by-test false = let z : k + 0 ≡ k = omega arith in rw (z, take-set-le k l k n (omega arith), e)
 
 pub length-places : (f : ℕ → Bool) (n : ℕ) → length (placesOf f n) ≡ countOf f n
 unfolding placesOf countOf

@@ -4,13 +4,13 @@
 ghost use mathlib.Core.Path.{_≡_};
 ghost use mathlib.Core.Bool.{cond, true, _&&_};
 ghost use mathlib.Core.List.{[]};
-ghost use Prim.Native.Nat.{_+_, _-_, _<_, _≤_};
+ghost use Prim.Native.Nat.{ℕ, _+_, _-_, _<_, _≤_};
 ghost use lib.Dec.{eqb, ltb};
 ghost use lib.ListN.{length, getD, take};
 ghost use Rattle.model.specs.Line.{tab};
 ghost use Rattle.model.specs.Address.{tableOf};
 ghost use Rattle.model.specs.Sprites.{
-    oamAt, height as heightOf, covers, placesOf, countOf, rowOf, secondTable, tileOf, patternAt, fetched, overflows
+    oamAt, height as heightOf, covers, placesOf, countOf, rowOf, secondTable, tileOf, patternAt, fetched, shade, spriteOn, spriteZeroOn, overflows
 };
 ghost use Rattle.sprites.specs.Distance.{distanceOf, distanceAt, isFrom, near};
 use model::Sprite;
@@ -47,15 +47,14 @@ fn distances(n: u8, oam: &[u8], d: &mut [u8])
     }
 }
 
-// One more than n if the distance d is one of the h numbers from `from`.
-fn counted(n: u8, d: u8, from: u8, h: u8) -> u8
-    requires { ⌜ n < 64 ⌝ }
-    ensures { λ r. ⌜ r ≡ cond (isFrom from h d) (n + 1) n ⌝ }
+// 1 if the distance d is one of the h numbers from `from`, else 0.
+fn near_one(d: u8, from: u8, h: u8) -> u8
+    ensures { λ r. ⌜ (r ≡ cond (isFrom from h d) 1 0) × (r ≤ 1) ⌝ }
 {
     if d < from {
-        return n;
+        return 0;
     }
-    if d - from < h { n + 1 } else { n }
+    if d - from < h { 1 } else { 0 }
 }
 
 // How many of the distances are.
@@ -66,22 +65,22 @@ fn count(d: &[u8], from: u8, h: u8) -> u8
     let mut n = 0u8;
     let mut i = 0;
     while i < 64 {
-        n = counted(n, d[i], from, h);
+        n += near_one(d[i], from, h);
         i += 1;
     }
     n
 }
 
-// The places of those distances, in order, at the front of `list`.
+// The places of those distances, in order, at the front of `list`: each is stored, and the next goes over it unless it counts.
 fn list_places(d: &[u8], from: u8, h: u8, list: &mut [u8])
     requires { ⌜ (length (now d) ≡ 64) × (length (now list) ≡ 65) ⌝ }
     ensures { λ _. ⌜ take (countOf (near (now (d .entry)) from h) 64) (now (list .exit)) ≡ placesOf (near (now (d .entry)) from h) 64 ⌝ }
 {
-    let mut n = 0u8;
+    let mut n = 0;
     let mut i = 0;
     while i < 64 {
-        list[bits::wide(n)] = i as u8;
-        n = counted(n, d[i], from, h);
+        list[n] = i as u8;
+        n += bits::wide(near_one(d[i], from, h));
         i += 1;
     }
 }
@@ -180,5 +179,64 @@ pub fn fetch(control: u8, n: usize, i: usize, left: &[u8], right: &[u8], oam: &[
         high: pattern_byte(second, at + 8, left, right),
         attribute: oam[4 * i + 2],
         x: oam[4 * i + 3],
+    }
+}
+
+// Sprite i covers line n: it is counted for overflow on n, and drawn on n + 1.
+fn covering(control: u8, n: usize, i: usize, oam: &[u8]) -> bool
+    requires { ⌜ (length (now oam) ≡ 256) × (i < 64) ⌝ }
+    ensures { λ r. ⌜ r ≡ covers control (now (oam .entry)) n i ⌝ }
+{
+    let y = bits::wide(oam[4 * i]);
+    if n < y {
+        return false;
+    }
+    n - y < bits::wide(height(control))
+}
+
+// The line before n; 0 for line 0.
+fn line_before(n: u8) -> usize
+    ensures { λ r. ⌜ r ≡ n - 1 ⌝ }
+{
+    if n == 0 { 0 } else { bits::wide(n - 1) }
+}
+
+// A sprite's eight pixels over a row of 264, where nothing opaque stands.
+pub fn put_sprite(s: Sprite, row: &mut [u8])
+    requires { ⌜ length (now row) ≡ 264 ⌝ }
+    ensures { λ _. ⌜ ((p : ℕ) → getD (now (row .exit)) p 0 ≡ cond (eqb (getD (now (row .entry)) p 0) 0) (shade s p) (getD (now (row .entry)) p 0))
+        × (length (now (row .exit)) ≡ 264) ⌝ }
+{
+    pixels::put_over(row, bits::wide(s.x), pixels::sprite_bytes(s));
+}
+
+// The winning sprite pixel of every column of line n, from the choice's list: the first sprites are put first.
+pub fn sprite_row(control: u8, n: u8, count: usize, left: &[u8], right: &[u8], oam: &[u8], list: &[u8], row: &mut [u8])
+    requires { ⌜ (length (now left) ≡ 4096) × (length (now right) ≡ 4096) × (length (now oam) ≡ 256) × (length (now list) ≡ 65) × (length (now row) ≡ 264) ⌝ }
+    requires { ⌜ ((p : ℕ) → getD (now row) p 0 ≡ 0) × (count ≤ 8)
+        × (take count (now list) ≡ cond (eqb n 0) [] (take 8 (placesOf (covers control (now oam) (n - 1)) 64))) ⌝ }
+    ensures { λ _. ⌜ ((p : ℕ) → getD (now (row .exit)) p 0 ≡ spriteOn control (now (left .entry)) (now (right .entry)) (now (oam .entry)) n p)
+        × (length (now (row .exit)) ≡ 264) ⌝ }
+{
+    let above = line_before(n);
+    let mut i = 0;
+    while i < count {
+        put_sprite(fetch(control, above, bits::wide(list[i]), left, right, oam), row);
+        i += 1;
+    }
+}
+
+// Sprite 0 by itself on line n.
+pub fn sprite_zero_row(control: u8, n: u8, left: &[u8], right: &[u8], oam: &[u8], row: &mut [u8])
+    requires { ⌜ (length (now left) ≡ 4096) × (length (now right) ≡ 4096) × (length (now oam) ≡ 256) × (length (now row) ≡ 264) × ((p : ℕ) → getD (now row) p 0 ≡ 0) ⌝ }
+    ensures { λ _. ⌜ ((p : ℕ) → getD (now (row .exit)) p 0 ≡ spriteZeroOn control (now (left .entry)) (now (right .entry)) (now (oam .entry)) n p)
+        × (length (now (row .exit)) ≡ 264) ⌝ }
+{
+    if n == 0 {
+        return;
+    }
+    let above = line_before(n);
+    if covering(control, above, 0, oam) {
+        put_sprite(fetch(control, above, 0, left, right, oam), row);
     }
 }
