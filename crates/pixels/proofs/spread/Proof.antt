@@ -1,0 +1,24 @@
+use Rattle.pixels.specs.Pack.{pack, spreadOf}
+use Rattle.pixels.proofs.Spreads.{spread-by, spread-fits, spread-most}
+use borrow.Author.Needs.{needs}
+use Rattle.pixels.proofs.spread.Statement.{statement}
+use Rattle.pixels.proofs.spread.Tie as tie
+use Rattle.pixels.proofs.spread.Reads as reads
+use Rattle.pixels.proofs.spread.Lts as lts
+use Rattle.bits.proofs.wide64.Reads as wide64-reads
+
+wide64-requires : tie.Need-wide64-requires
+wide64-requires c κs = search needs
+
+mul-result : tie.Need-mul-result
+mul-result c = search needs
+
+add-result : tie.Need-add-result
+add-result c = search spread-fits
+
+returns : tie.Need-returns
+unfolding pack spreadOf
+returns c = (search spread-by, search spread-most)
+
+pub spread-spec : {M : Type 1} → statement M
+spread-spec = tie.close (tie.spec wide64-requires mul-result add-result returns)

@@ -1,0 +1,205 @@
+// Eight pixels in a 64-bit word, the leftmost in the lowest byte, and rows of pixels.
+// spread, spread_back, numbers: a byte's bits one to a byte; pixel numbers from colours.
+// put8, put_tile: eight pixels stored in a row; those of a background tile.
+// sprite_bytes, put_over: the eight pixels of a sprite's row; stored only where nothing opaque stands.
+// clear, merge, any_both: over a whole row: the left columns hidden, sprites over background, sprite 0 hit.
+ghost use mathlib.Core.Path.{_≡_};
+ghost use mathlib.Core.Bool.{cond, _&&_, _||_};
+ghost use Prim.Native.Nat.{ℕ, _+_, _-_, _*_, _/_, _%_, _^_, _<_, _≤_};
+ghost use lib.Dec.{eqb, ltb};
+ghost use lib.ListN.{length, getD};
+ghost use Rattle.model.specs.Unit.{bit};
+ghost use Rattle.model.specs.Background.{colourOf, numberOf};
+ghost use Rattle.model.specs.Line.{tab, merged, anyOf};
+ghost use Rattle.pixels.specs.Pack.{pack, byteOf, spreadOf, backOf, pixelsBy};
+ghost use Rattle.pixels.specs.Row.{storeTab, overOne, overTab};
+use model::Sprite;
+
+// 1 in each byte.
+const ONES: u64 = 0x0101010101010101;
+// Times a byte: its bit 7 - k, for k from 1 to 7, comes to the lowest bit of byte k, 9k - 7 places up. No two bits meet.
+const SPREAD: u64 = 0x0100804020100804;
+// Times a byte's low seven bits: bit k comes to the lowest bit of byte k, 7k places up. No two bits meet.
+const SPREAD_BACK: u64 = 0x0000040810204081;
+// 3 in each byte: a colour and 3 more is 4 or more unless the colour is 0.
+const THREES: u64 = 0x0303030303030303;
+// 4 in each byte.
+const FOURS: u64 = 0x0404040404040404;
+
+// The bits of b, one in each byte, bit 7 leftmost.
+pub fn spread(b: u8) -> u64
+    ensures { λ r. ⌜ (r ≡ spreadOf b) × (r ≤ 0x0101010101010101) ⌝ }
+{
+    let x = bits::wide64(b);
+    (x * SPREAD & ONES) + (x >> 7)
+}
+
+// The bits of b, one in each byte, bit 0 leftmost.
+pub fn spread_back(b: u8) -> u64
+    ensures { λ r. ⌜ (r ≡ backOf b) × (r ≤ 0x0101010101010101) ⌝ }
+{
+    let low = bits::wide64(bits::low8(b, 7));
+    let high = bits::wide64(b >> 7);
+    (low * SPREAD_BACK & ONES) + high * 0x0100000000000000
+}
+
+// The pixel numbers of eight colours: 0 where the colour is 0, else 4q + colour.
+pub fn numbers(colours: u64, q: u64) -> u64
+    requires { ⌜ (colours ≤ 0x0303030303030303) × (q < 16) ⌝ }
+    ensures { λ r. ⌜ r ≡ pixelsBy colours q ⌝ }
+{
+    colours + (colours + THREES & FOURS) * q
+}
+
+// Byte k of n.
+fn byte(n: u64, k: usize) -> u8
+    requires { ⌜ k < 8 ⌝ }
+    ensures { λ r. ⌜ r ≡ byteOf n k ⌝ }
+{
+    bits::low_byte(n >> (8 * k))
+}
+
+// Eight pixels stored from column at on.
+pub fn put8(row: &mut [u8], at: usize, n: u64)
+    requires { ⌜ at + 8 ≤ length (now row) ⌝ }
+    ensures { λ _. ⌜ now (row .exit) ≡ storeTab (byteOf n) at 8 (now (row .entry)) ⌝ }
+{
+    row[at] = byte(n, 0);
+    row[at + 1] = byte(n, 1);
+    row[at + 2] = byte(n, 2);
+    row[at + 3] = byte(n, 3);
+    row[at + 4] = byte(n, 4);
+    row[at + 5] = byte(n, 5);
+    row[at + 6] = byte(n, 6);
+    row[at + 7] = byte(n, 7);
+}
+
+// The eight pixels of a background tile's row, stored from column at on.
+pub fn put_tile(row: &mut [u8], at: usize, low: u8, high: u8, palette: u8)
+    requires { ⌜ (at + 8 ≤ length (now row)) × (palette < 4) ⌝ }
+    ensures { λ _. ⌜ now (row .exit) ≡ storeTab (λ (j : ℕ). numberOf palette (colourOf low high (7 - j))) at 8 (now (row .entry)) ⌝ }
+{
+    let colours = spread(low) + 2 * spread(high);
+    put8(row, at, numbers(colours, bits::wide64(palette)));
+}
+
+// The colours from the left, or from the right where attribute bit 6 flips the sprite.
+fn sided(attribute: u8, plain: u64, flipped: u64) -> u64
+    requires { ⌜ (plain ≤ 0x0303030303030303) × (flipped ≤ 0x0303030303030303) ⌝ }
+    ensures { λ r. ⌜ (r ≡ cond (bit 64 attribute) flipped plain) × (r ≤ 0x0303030303030303) ⌝ }
+{
+    if bits::bit(attribute, 6) {
+        return flipped;
+    }
+    plain
+}
+
+// The eight pixels of a sprite's row: 0, or 16 + 4 × palette + colour, and 32 more where attribute bit 5 puts it behind.
+pub fn sprite_bytes(s: Sprite) -> u64
+    ensures { λ r. ⌜ r ≡ pack (λ (j : ℕ). numberOf (4 + s .attribute % 4 + s .attribute / 32 % 2 * 8) (colourOf (s .low) (s .high) (cond (bit 64 (s .attribute)) j (7 - j)))) 8 ⌝ }
+{
+    let plain = spread(s.low) + 2 * spread(s.high);
+    let flipped = spread_back(s.low) + 2 * spread_back(s.high);
+    let q = 4 + bits::low8(s.attribute, 2) + bits::field(s.attribute, 5, 1) * 8;
+    numbers(sided(s.attribute, plain, flipped), bits::wide64(q))
+}
+
+// The bytes of n, the lowest first.
+fn bytes8(n: u64) -> [u8; 8]
+    ensures { λ r. ⌜ r ≡ tab (byteOf n) 8 ⌝ }
+{
+    [
+        byte(n, 0),
+        byte(n, 1),
+        byte(n, 2),
+        byte(n, 3),
+        byte(n, 4),
+        byte(n, 5),
+        byte(n, 6),
+        byte(n, 7),
+    ]
+}
+
+// The old pixel if it is opaque, else the new one.
+fn over_one(old: u8, new: u8) -> u8
+    ensures { λ r. ⌜ r ≡ overOne old new ⌝ }
+{
+    if old == 0 { new } else { old }
+}
+
+// Eight pixels stored from column at on, where nothing opaque stands.
+pub fn put_over(row: &mut [u8], at: usize, n: u64)
+    requires { ⌜ at + 8 ≤ length (now row) ⌝ }
+    ensures { λ _. ⌜ now (row .exit) ≡ overTab (byteOf n) at 8 (now (row .entry)) ⌝ }
+{
+    let t = bytes8(n);
+    let mut j = 0;
+    while j < 8 {
+        row[at + j] = over_one(row[at + j], t[j]);
+        j += 1;
+    }
+}
+
+// The first n columns are not opaque.
+pub fn clear(row: &mut [u8], n: usize)
+    requires { ⌜ n ≤ length (now row) ⌝ }
+    ensures { λ _. ⌜ ((p : ℕ) → getD (now (row .exit)) p 0 ≡ cond (ltb p n) 0 (getD (now (row .entry)) p 0)) ⌝ }
+{
+    let mut i = 0;
+    while i < n {
+        row[i] = 0;
+        i += 1;
+    }
+}
+
+// The sprites' pixel s over the background's pixel b; bit 5 of s says behind.
+fn merge_one(b: u8, s: u8) -> u8
+    ensures { λ r. ⌜ r ≡ merged b s ⌝ }
+{
+    if s == 0 {
+        return b;
+    }
+    if b == 0 {
+        return bits::low8(s, 5);
+    }
+    if bits::bit(s, 5) {
+        return b;
+    }
+    bits::low8(s, 5)
+}
+
+// The sprites' row over the background's line.
+pub fn merge(line: &mut [u8], s: &[u8])
+    requires { ⌜ (length (now line) ≡ 256) × (length (now s) ≡ 264) ⌝ }
+    ensures { λ _. ⌜ now (line .exit) ≡ tab (λ (p : ℕ). merged (getD (now (line .entry)) p 0) (getD (now (s .entry)) p 0)) 256 ⌝ }
+{
+    let mut p = 0;
+    while p < 256 {
+        line[p] = merge_one(line[p], s[p]);
+        p += 1;
+    }
+}
+
+// A hit so far, or in a column where both pixels are opaque.
+fn hit_one(hit: bool, b: u8, s: u8) -> bool
+    ensures { λ r. ⌜ r ≡ hit || (ltb 0 b && ltb 0 s) ⌝ }
+{
+    if b == 0 {
+        return hit;
+    }
+    if s == 0 { hit } else { true }
+}
+
+// Some column below 255 where both rows are opaque.
+pub fn any_both(b: &[u8], s: &[u8]) -> bool
+    requires { ⌜ (length (now b) ≡ 256) × (length (now s) ≡ 264) ⌝ }
+    ensures { λ r. ⌜ r ≡ anyOf (λ (p : ℕ). ltb 0 (getD (now (b .entry)) p 0) && ltb 0 (getD (now (s .entry)) p 0)) 255 ⌝ }
+{
+    let mut hit = false;
+    let mut p = 0;
+    while p < 255 {
+        hit = hit_one(hit, b[p], s[p]);
+        p += 1;
+    }
+    hit
+}
