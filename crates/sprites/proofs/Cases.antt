@@ -12,9 +12,13 @@ use lib.Seq.{take-all}
 use Rattle.model.specs.declared.Sprite.{Sprite}
 use Rattle.model.specs.Unit.{bit}
 use Rattle.model.specs.Address.{tableOf}
+use Rattle.model.specs.Background.{colourOf, numberOf}
 use Rattle.model.specs.Line.{tab}
-use Rattle.model.specs.Sprites.{oamAt, height, covers, placesOf, countOf, rowOf, secondTable, tileOf, patternAt, fetched, overflows}
+use Rattle.model.specs.Sprites.{oamAt, height, covers, placesOf, countOf, rowOf, secondTable, tileOf, patternAt, fetched, shade, overflows}
 use Rattle.model.proofs.Scroll.{lt-or-ge}
+use Rattle.pixels.specs.Pack.{pack, byteOf}
+use Rattle.pixels.specs.Row.{overTab}
+use Rattle.pixels.proofs.Over.{over-shade}
 use Rattle.sprites.specs.Distance.{distanceOf, distanceAt, isFrom, near}
 use Rattle.sprites.proofs.Places.{height-le, covers-from, covers-to, y-at, length-places, count-covers, eight-shown}
 
@@ -41,15 +45,15 @@ module _ (n y : ℕ) where
 pub ruleset distance-cases = (distance-1, distance-2)
 
 module _ (d from h : ℕ) where
-  pub near-1 : d < from → 0 ≡ cond (isFrom from h d) 1 0
+  pub near-1 : d < from → 0 ≡ cond {A = ℕ} (isFrom from h d) 1 0
   unfolding isFrom
   near-1 p = rw (lt-leb from d p)
 
-  pub near-2 : from ≤ d → d - from < h → 1 ≡ cond (isFrom from h d) 1 0
+  pub near-2 : from ≤ d → d - from < h → 1 ≡ cond {A = ℕ} (isFrom from h d) 1 0
   unfolding isFrom
   near-2 p q = rw (le-leb from d p, lt-ltb (d - from) h q)
 
-  pub near-3 : from ≤ d → h ≤ d - from → 0 ≡ cond (isFrom from h d) 1 0
+  pub near-3 : from ≤ d → h ≤ d - from → 0 ≡ cond {A = ℕ} (isFrom from h d) 1 0
   unfolding isFrom
   near-3 p q = rw (le-leb from d p, le-ltb (d - from) h q)
 
@@ -159,3 +163,8 @@ pub fetch-1 : (c : ℕ) (left right o : List ℕ) (n i at a b : ℕ) (second : B
     → s ≡ record { low = a; high = b; attribute = oamAt o i 2; x = oamAt o i 3 } → s ≡ fetched c left right o n i
 unfolding fetched
 fetch-1 c left right o n i at a b second s e f g h z = z ∙ rw (g, h, e, f)
+
+pub put-1 : (s : Sprite) (at n : ℕ) (row row′ : List ℕ) → length row ≡ 264 → at ≡ s .x → at < 256
+    → n ≡ pack (λ (j : ℕ). numberOf (4 + s .attribute % 4 + s .attribute / 32 % 2 * 8) (colourOf (s .low) (s .high) (cond (bit 64 (s .attribute)) j (7 - j)))) 8
+    → row′ ≡ overTab (byteOf n) at 8 row → (p : ℕ) → getD row′ p 0 ≡ cond (eqb (getD row p 0) 0) (shade s p) (getD row p 0)
+put-1 s at n row row′ h e lt f d p = over-shade s n p row row′ (omega arith) f (rw e at d)
