@@ -1,0 +1,170 @@
+-- The ways of each function, for `search`.
+use Prim.Native.Nat.{ℕ, zero, suc, _+_, _-_, _*_, _/_, _%_, _<_, _≤_}
+use mathlib.Core.Path.{_≡_, refl, ap, sym, _∙_}
+use mathlib.Core.Bool.{Bool, true, false, cond, _&&_}
+use mathlib.Core.List.{List, [], _∷_, _++_}
+use mathlib.Core.Logic.{⊎-elim}
+use native.Mathlib.Omega.{arith}
+use borrow.Author.Tests.{eq-eqb, ne-eqb, le-leb, lt-leb, lt-ltb, le-ltb}
+use lib.Dec.{eqb, ltb, leb}
+use lib.ListN.{length, getD, take}
+use lib.Seq.{take-all}
+use Rattle.model.specs.declared.Sprite.{Sprite}
+use Rattle.model.specs.Unit.{bit}
+use Rattle.model.specs.Address.{tableOf}
+use Rattle.model.specs.Background.{colourOf, numberOf}
+use Rattle.model.specs.Line.{tab}
+use Rattle.model.specs.Sprites.{oamAt, height, covers, placesOf, countOf, rowOf, secondTable, tileOf, patternAt, fetched, shade, overflows}
+use Rattle.model.proofs.Scroll.{lt-or-ge}
+use Rattle.pixels.specs.Pack.{pack, byteOf}
+use Rattle.pixels.specs.Row.{overTab}
+use Rattle.pixels.proofs.Over.{over-shade}
+use Rattle.sprites.specs.Distance.{distanceOf, distanceAt, isFrom, near}
+use Rattle.sprites.proofs.Places.{height-le, covers-from, covers-to, y-at, length-places, count-covers, eight-shown}
+
+module _ (c : ℕ) (b : Bool) (e : b ≡ bit 32 c) where
+  pub height-1 : b ≡ true → 16 ≡ height c
+  unfolding height
+  height-1 t = rw (sym e ∙ t)
+
+  pub height-2 : b ≡ false → 8 ≡ height c
+  unfolding height
+  height-2 t = rw (sym e ∙ t)
+
+pub ruleset height-cases = (height-1, height-2)
+
+module _ (n y : ℕ) where
+  pub distance-1 : y ≤ n → n - y ≡ distanceOf n y
+  unfolding distanceOf
+  distance-1 h = rw (le-leb y n h)
+
+  pub distance-2 : n < y → 255 ≡ distanceOf n y
+  unfolding distanceOf
+  distance-2 h = rw (lt-leb y n h)
+
+pub ruleset distance-cases = (distance-1, distance-2)
+
+module _ (d from h : ℕ) where
+  pub near-1 : d < from → 0 ≡ cond {A = ℕ} (isFrom from h d) 1 0
+  unfolding isFrom
+  near-1 p = rw (lt-leb from d p)
+
+  pub near-2 : from ≤ d → d - from < h → 1 ≡ cond {A = ℕ} (isFrom from h d) 1 0
+  unfolding isFrom
+  near-2 p q = rw (le-leb from d p, lt-ltb (d - from) h q)
+
+  pub near-3 : from ≤ d → h ≤ d - from → 0 ≡ cond {A = ℕ} (isFrom from h d) 1 0
+  unfolding isFrom
+  near-3 p q = rw (le-leb from d p, le-ltb (d - from) h q)
+
+pub ruleset near-cases = (near-1, near-2, near-3)
+
+module _ (n r : ℕ) where
+  pub eight-1 : 8 < n → 8 ≡ cond (ltb 8 n) 8 n
+  eight-1 p = rw (lt-ltb 8 n p)
+
+  pub eight-2 : n ≤ 8 → r ≡ n → r ≡ cond (ltb 8 n) 8 n
+  eight-2 p e = rw (le-ltb 8 n p) e
+
+pub ruleset eight-cases = (eight-1, eight-2)
+
+module _ (c n h : ℕ) (o d : List ℕ) (e : d ≡ tab (distanceAt n o) 64) (g : h ≡ height c) where
+  pub choose-1 : (m : ℕ) → m ≡ countOf (near d 0 h) 64 → ltb 8 m ≡ overflows c o n
+  unfolding overflows
+  choose-1 m f = rw (f, g, count-covers c n o d e)
+
+  pub choose-2 : (s : ℕ) → s ≡ countOf (near d 1 h) 64 → s ≡ 0 → [] ≡ cond (eqb n 0) [] (take 8 (placesOf (covers c o (n - 1)) 64))
+  choose-2 s f z =
+      let none : 0 ≡ countOf (near d 1 (height c)) 64 = rw g at (sym z ∙ f) in
+      eight-shown c n o d e 0 0 [] none refl (take-all 0 (placesOf (near d 1 (height c)) 64) (omega (arith, length-places (near d 1 (height c)) 64)))
+
+  pub choose-3 : (s k : ℕ) (l : List ℕ) → s ≡ countOf (near d 1 h) 64 → take (countOf (near d 1 h) 64) l ≡ placesOf (near d 1 h) 64 → k ≡ cond (ltb 8 s) 8 s
+      → take k l ≡ cond (eqb n 0) [] (take 8 (placesOf (covers c o (n - 1)) 64))
+  choose-3 s k l f z m = eight-shown c n o d e s k l (rw g at f) m (rw g at (rw (sym f) at z))
+
+pub ruleset choose-cases = (choose-1, choose-2, choose-3)
+
+module _ (c : ℕ) (o : List ℕ) (n i y r : ℕ) (e : y ≡ getD o (4 * i) 0) where
+  pub row-1 : covers c o n i ≡ true → y ≤ n
+  row-1 k = omega (arith, covers-from c o n i k, y-at o i)
+
+  pub row-2 : (b : Bool) → b ≡ bit 128 (oamAt o i 2) → b ≡ false → r ≡ n - y → r ≡ rowOf c o n i
+  unfolding rowOf
+  row-2 b d t z = z ∙ rw (sym d ∙ t, e, y-at o i)
+
+  pub row-3 : covers c o n i ≡ true → r ≡ n - y → r < 16
+  row-3 k z = omega (arith, covers-to c o n i k, height-le c, y-at o i)
+
+module _ (c : ℕ) (o : List ℕ) (n i y r g h : ℕ) (e : y ≡ getD o (4 * i) 0) (w : h ≡ g) (f : g ≡ height c) where
+  pub row-4 : covers c o n i ≡ true → 1 ≤ h
+  row-4 k = omega (arith, covers-from c o n i k, covers-to c o n i k)
+
+  pub row-5 : covers c o n i ≡ true → n - y ≤ h - 1
+  row-5 k = omega (arith, covers-from c o n i k, covers-to c o n i k, y-at o i)
+
+  pub row-6 : (b : Bool) → b ≡ bit 128 (oamAt o i 2) → b ≡ true → r ≡ h - 1 - (n - y) → r ≡ rowOf c o n i
+  unfolding rowOf
+  row-6 b d t z = z ∙ rw (sym d ∙ t, w, f, e, y-at o i)
+
+pub ruleset row-cases = (row-1, row-2, row-3, row-4, row-5, row-6)
+
+module _ (c : ℕ) (o : List ℕ) (n i y : ℕ) (e : y ≡ getD o (4 * i) 0) where
+  pub covering-1 : n < y → false ≡ covers c o n i
+  unfolding covers
+  covering-1 p = rw (lt-leb (oamAt o i 0) n (omega (arith, y-at o i)))
+
+  pub covering-2 : (g h : ℕ) → y ≤ n → h ≡ g → g ≡ height c → ltb (n - y) h ≡ covers c o n i
+  unfolding covers
+  covering-2 g h p w f =
+      ⊎-elim
+      (λ (lt : n - y < h). rw (lt-ltb (n - y) h lt, le-leb (oamAt o i 0) n (omega (arith, y-at o i)), lt-ltb n (oamAt o i 0 + height c) (omega (arith, y-at o i))))
+      (λ (ge : h ≤ n - y). rw (le-ltb (n - y) h ge, le-leb (oamAt o i 0) n (omega (arith, y-at o i)), le-ltb n (oamAt o i 0 + height c) (omega (arith, y-at o i))))
+      (lt-or-ge (n - y) h)
+
+pub ruleset covering-cases = (covering-1, covering-2)
+
+module _ (c : ℕ) (o : List ℕ) (i : ℕ) (b r : Bool) (e : b ≡ bit 32 c) where
+  pub second-1 : b ≡ true → r ≡ bit 1 (oamAt o i 1) → r ≡ secondTable c o i
+  unfolding secondTable
+  second-1 t z = rw (sym e ∙ t) z
+
+  pub second-2 : b ≡ false → r ≡ bit 8 c → r ≡ secondTable c o i
+  unfolding secondTable
+  second-2 t z = rw (sym e ∙ t) z
+
+pub ruleset second-cases = (second-1, second-2)
+
+module _ (c : ℕ) (o : List ℕ) (row i t r : ℕ) (b : Bool) (e : b ≡ bit 32 c) (f : t ≡ oamAt o i 1) where
+  pub tile-1 : b ≡ true → r ≡ t / 2 * 2 + row / 8 → r ≡ tileOf c o row i
+  unfolding tileOf
+  tile-1 g z = z ∙ rw (sym e ∙ g, f)
+
+  pub tile-2 : b ≡ false → r ≡ t → r ≡ tileOf c o row i
+  unfolding tileOf
+  tile-2 g z = z ∙ rw (sym e ∙ g, f)
+
+pub ruleset tile-cases = (tile-1, tile-2)
+
+pub pattern-1 : (c : ℕ) (o : List ℕ) (n i row t l r : ℕ) → row ≡ rowOf c o n i → t ≡ tileOf c o row i → l ≡ row % 8 → r ≡ 16 * t + l → r ≡ patternAt c o n i
+unfolding patternAt
+pattern-1 c o n i row t l r e f g z = z ∙ rw (f, g, e)
+
+module _ (second : Bool) (at r : ℕ) (left right : List ℕ) where
+  pub byte-1 : second ≡ true → r ≡ getD right at 0 → r ≡ getD (tableOf second left right) at 0
+  byte-1 e z = rw e z
+
+  pub byte-2 : second ≡ false → r ≡ getD left at 0 → r ≡ getD (tableOf second left right) at 0
+  byte-2 e z = rw e z
+
+pub ruleset byte-cases = (byte-1, byte-2)
+
+pub fetch-1 : (c : ℕ) (left right o : List ℕ) (n i at a b : ℕ) (second : Bool) (s : Sprite) → at ≡ patternAt c o n i → second ≡ secondTable c o i
+    → a ≡ getD (tableOf second left right) at 0 → b ≡ getD (tableOf second left right) (at + 8) 0
+    → s ≡ record { low = a; high = b; attribute = oamAt o i 2; x = oamAt o i 3 } → s ≡ fetched c left right o n i
+unfolding fetched
+fetch-1 c left right o n i at a b second s e f g h z = z ∙ rw (g, h, e, f)
+
+pub put-1 : (s : Sprite) (at n : ℕ) (row row′ : List ℕ) → length row ≡ 264 → at ≡ s .x → at < 256
+    → n ≡ pack (λ (j : ℕ). numberOf (4 + s .attribute % 4 + s .attribute / 32 % 2 * 8) (colourOf (s .low) (s .high) (cond (bit 64 (s .attribute)) j (7 - j)))) 8
+    → row′ ≡ overTab (byteOf n) at 8 row → (p : ℕ) → getD row′ p 0 ≡ cond (eqb (getD row p 0) 0) (shade s p) (getD row p 0)
+put-1 s at n row row′ h e lt f d p = over-shade s n p row row′ (omega arith) f (rw e at d)

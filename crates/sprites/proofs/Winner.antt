@@ -1,0 +1,150 @@
+-- Sprites put one after the other: the first opaque pixel of each column stays.
+use Prim.Native.Nat.{ℕ, zero, suc, _+_, _-_, _<_, _≤_}
+use mathlib.Core.Path.{_≡_, refl, ap, sym, _∙_}
+use mathlib.Core.Bool.{Bool, true, false, cond, _&&_}
+use mathlib.Core.Logic.{⊎-elim}
+use mathlib.Core.List.{List, [], _∷_, _++_, map}
+use native.Mathlib.Omega.{arith}
+use native.Mathlib.Numerals.{add-one}
+use borrow.Author.Tests.{eq-eqb, ne-eqb, lt-ltb}
+use lib.Dec.{eqb, ltb}
+use lib.ListN.{length, getD, take}
+use lib.Seq.{take-suc, take-all, getD-take, length-take-le}
+use Rattle.model.specs.declared.Sprite.{Sprite}
+use Rattle.model.specs.Sprites.{covers, placesOf, countOf, fetched, chosen, shade, winner, spriteOn, spriteZeroOn}
+use Rattle.model.proofs.Scroll.{lt-or-ge}
+use Rattle.pixels.proofs.Over.{over-none}
+use Rattle.sprites.proofs.Places.{places-at, length-places, count-first}
+
+kept : (o v : ℕ) (b : Bool) → eqb o 0 ≡ b → (w r : ℕ) → r ≡ cond (eqb w 0) v w → cond b r o ≡ cond (eqb (cond b w o) 0) v (cond b w o)
+kept o v true e w r h = h
+kept o v false e w r h = rw e
+
+-- one sprite more
+winner-more : (l : List Sprite) (s : Sprite) (p : ℕ) → winner (l ++ (s ∷ [])) p ≡ cond (eqb (winner l p) 0) (shade s p) (winner l p)
+unfolding winner
+winner-more [] s p = over-none (shade s p)
+winner-more (t ∷ l) s p = kept (shade t p) (shade s p) (eqb (shade t p) 0) refl (winner l p) (winner (l ++ (s ∷ [])) p) (winner-more l s p)
+
+map-more : (f : ℕ → Sprite) (l : List ℕ) (i : ℕ) → map f (l ++ (i ∷ [])) ≡ map f l ++ (f i ∷ [])
+map-more f [] i = refl
+map-more f (k ∷ l) i = ap (λ (t : List Sprite). f k ∷ t) (map-more f l i)
+
+none-taken : (l : List ℕ) → take 8 l ≡ [] → l ≡ []
+none-taken [] e = refl
+none-taken (k ∷ l) e = absurd (no (ap length e))
+  where
+    no : suc (length (take 7 l)) ≡ 0 → ⊥
+    no e = omega arith
+
+and-false : (b : Bool) → (b && false) ≡ false
+and-false true = refl
+and-false false = refl
+
+-- ---- the list that the choice leaves
+module _ (c n count : ℕ) (o list : List ℕ) (few : count ≤ 8) (long : length list ≡ 65) (e : take count list ≡ cond (eqb n 0) [] (take 8 (placesOf (covers c o (n - 1)) 64))) where
+  full : length (take count list) ≡ count
+  full = length-take-le count list (omega arith)
+
+  -- on line 0 it is empty
+  none : n ≡ 0 → count ≡ 0
+  none z = sym full ∙ ap length e ∙ rw z
+
+  some : (j : ℕ) → j < count → take count list ≡ take 8 (placesOf (covers c o (n - 1)) 64)
+  some j lt = e ∙ rw (ne-eqb n 0 (λ z. omega (arith, none z)))
+
+  at : (j : ℕ) → j < count → (getD list j 0 < 64) × (covers c o (n - 1) (getD list j 0) ≡ true)
+  at j lt =
+      let P : List ℕ = placesOf (covers c o (n - 1)) 64 in
+      let g : getD list j 0 ≡ getD P j 0 =
+          sym (getD-take count list j 0 lt) ∙ ap (λ (l : List ℕ). getD l j 0) (some j lt) ∙ getD-take 8 P j 0 (omega arith) in
+      let w : j < length P =
+          ⊎-elim
+          (λ (h : j < length P). h)
+          (λ (h : length P ≤ j). absurd (omega (arith, full, ap length (some j lt ∙ take-all 8 P (omega arith)))))
+          (lt-or-ge j (length P)) in
+      rw g (places-at (covers c o (n - 1)) 64 j w)
+
+  pub listed-small : (j k : ℕ) → j < count → k ≡ getD list j 0 → k < 64
+  listed-small j k lt z = rw z (at j lt .0)
+
+  pub listed-covers : (j k m : ℕ) → j < count → k ≡ getD list j 0 → m ≡ n - 1 → covers c o m k ≡ true
+  listed-covers j k m lt z d = rw (z, d) (at j lt .1)
+
+  -- it has the line's sprites
+  winner-listed : (left right : List ℕ) (p : ℕ) → winner (map (fetched c left right o (n - 1)) (take count list)) p ≡ spriteOn c left right o n p
+  unfolding spriteOn chosen winner
+  winner-listed left right p = rw e (by-test (eqb n 0))
+    where
+      by-test : (b : Bool) → winner (map (fetched c left right o (n - 1)) (cond b [] (take 8 (placesOf (covers c o (n - 1)) 64)))) p
+          ≡ cond b 0 (winner (map (fetched c left right o (n - 1)) (take 8 (placesOf (covers c o (n - 1)) 64))) p)
+      by-test true = refl
+      by-test false = refl
+
+  -- where it is empty no sprite is drawn, nor is sprite 0
+  pub none-on : count ≡ 0 → (left right : List ℕ) (p : ℕ) → spriteOn c left right o n p ≡ 0
+  unfolding winner
+  none-on z left right p = sym (winner-listed left right p) ∙ rw z
+
+  pub none-zero : count ≡ 0 → (left right : List ℕ) (p : ℕ) → spriteZeroOn c left right o n p ≡ 0
+  unfolding spriteZeroOn
+  none-zero z left right p =
+      ⊎-elim
+      (λ (some : 0 < n).
+        let P : List ℕ = placesOf (covers c o (n - 1)) 64 in
+        let w : take 8 P ≡ [] = rw (z, ne-eqb n 0 (λ d. omega arith)) at (sym e) in
+        let k : countOf (covers c o (n - 1)) 64 ≡ 0 = sym (length-places (covers c o (n - 1)) 64) ∙ ap length (none-taken P w) in
+        rw (count-first (covers c o (n - 1)) 63 k, and-false (ltb 0 n)))
+      (λ (none : n ≤ 0). let d : n ≡ 0 = omega arith in rw d)
+      (lt-or-ge 0 n)
+
+-- ---- the loop over the list: its first i sprites, as line m + 1 shows them, are put
+pub record Won (c m count : ℕ) (left right o list row : List ℕ) (i : ℕ) : Type 0 where
+  pub room : i ≤ count
+  pub long : length row ≡ 264
+  pub won : (p : ℕ) → getD row p 0 ≡ winner (map (fetched c left right o m) (take i list)) p
+
+pub won-start : (c m count : ℕ) (left right o list row : List ℕ) → length row ≡ 264 → ((p : ℕ) → getD row p 0 ≡ 0) → Won c m count left right o list row 0
+unfolding winner
+won-start c m count left right o list row h e = record { room = omega arith; long = h; won = e }
+
+module _ (c m count : ℕ) (left right o list row : List ℕ) (i : ℕ) (w : Won c m count left right o list row i) (few : count ≤ 8) (long : length list ≡ 65) where
+  pub won-more : (k : ℕ) (s : Sprite) (row′ : List ℕ) → i < count → k ≡ getD list i 0 → s ≡ fetched c left right o m k → length row′ ≡ 264
+      → ((p : ℕ) → getD row′ p 0 ≡ cond (eqb (getD row p 0) 0) (shade s p) (getD row p 0)) → Won c m count left right o list row′ (i + 1)
+  won-more k s row′ lt z f h e =
+      let t : take (i + 1) list ≡ take i list ++ (k ∷ []) = rw (add-one i, z) (take-suc list i 0 (omega arith)) in
+      record {
+        room = omega arith;
+        long = h;
+        won = λ p. rw (e p, w .won p, f, t, map-more (fetched c left right o m) (take i list) k) (sym (winner-more (map (fetched c left right o m) (take i list)) (fetched c left right o m k) p));
+      }
+
+  pub won-done : (n : ℕ) → count ≤ i → m ≡ n - 1 → take count list ≡ cond (eqb n 0) [] (take 8 (placesOf (covers c o (n - 1)) 64)) → (p : ℕ) → getD row p 0 ≡ spriteOn c left right o n p
+  won-done n ge d e p =
+      let z : i ≡ count = omega (arith, w .room) in
+      rw (z, d) at (w .won p) ∙ winner-listed c n count o list few long e left right p
+
+pub ruleset won-loop = (won-start, won-more, won-done)
+
+pub ruleset listed-cases = (listed-small, listed-covers)
+
+-- ---- sprite 0
+module _ (c n : ℕ) (left right o : List ℕ) where
+  pub zero-1 : n ≡ 0 → (row : List ℕ) → ((p : ℕ) → getD row p 0 ≡ 0) → (p : ℕ) → getD row p 0 ≡ spriteZeroOn c left right o n p
+  unfolding spriteZeroOn
+  zero-1 z row e p = e p ∙ rw z
+
+module _ (c n m : ℕ) (left right o : List ℕ) (b : Bool) (u : n ≡ 0 → ⊥) (d : m ≡ n - 1) (e : b ≡ covers c o m 0) where
+  pub zero-2 : b ≡ false → (row : List ℕ) → ((p : ℕ) → getD row p 0 ≡ 0) → (p : ℕ) → getD row p 0 ≡ spriteZeroOn c left right o n p
+  unfolding spriteZeroOn
+  zero-2 t row z p = z p ∙ rw (lt-ltb 0 n (omega arith), ← d, sym e ∙ t)
+
+  pub zero-3 : b ≡ true → (s : Sprite) (row row′ : List ℕ) → length row ≡ 264 → ((p : ℕ) → getD row p 0 ≡ 0) → s ≡ fetched c left right o m 0
+      → ((p : ℕ) → getD row′ p 0 ≡ cond (eqb (getD row p 0) 0) (shade s p) (getD row p 0)) → (p : ℕ) → getD row′ p 0 ≡ spriteZeroOn c left right o n p
+  unfolding spriteZeroOn
+  zero-3 t s row row′ h z f g p = g p ∙ rw (z p, f, lt-ltb 0 n (omega arith), ← d, sym e ∙ t)
+
+pub zero-covers : (c : ℕ) (o : List ℕ) (m : ℕ) (b : Bool) → b ≡ covers c o m 0 → b ≡ true → covers c o m 0 ≡ true
+zero-covers c o m b e t = sym e ∙ t
+
+pub ruleset zero-cases = (zero-1, zero-2, zero-3)

@@ -1,0 +1,16 @@
+use Rattle.sprites.proofs.Cases.{distance-cases}
+use Rattle.sprites.proofs.distance.Statement.{statement}
+use Rattle.sprites.proofs.distance.Tie as tie
+use Rattle.sprites.proofs.distance.Reads as reads
+use Rattle.sprites.proofs.distance.Lts as lts
+
+-- src/lib.rt:32:1
+returns : tie.Need-returns
+returns c = search distance-cases
+
+-- src/lib.rt:32:1
+returns-2 : tie.Need-returns-2
+returns-2 c = search distance-cases
+
+pub distance-spec : {M : Type 1} → statement M
+distance-spec = tie.close (tie.spec returns returns-2)

@@ -1,0 +1,72 @@
+use Prim.Native.Nat.{_-_}
+use native.Mathlib.Omega.{arith}
+use borrow.Author.Needs.{needs}
+use Rattle.sprites.proofs.Loops.{Measured, measured-cases}
+use Rattle.sprites.proofs.distances.Statement.{statement}
+use Rattle.sprites.proofs.distances.Tie as tie
+use Rattle.sprites.proofs.distances.Reads as reads
+use Rattle.sprites.proofs.distances.Lts as lts
+use Rattle.sprites.proofs.distance.Reads as distance-reads
+
+abbrev Inv-loop : tie.InvT-loop
+Inv-loop n oam d₀ i₀ d i = Measured n oam d₀ d i
+
+abbrev μ-loop : tie.MeasureT-loop
+μ-loop n oam d₀ i₀ d i = 64 - i
+
+-- src/lib.rt:44:5
+loop-holds : tie.Need-loop-holds Inv-loop μ-loop
+loop-holds c = search (measured-cases, arith)
+
+-- src/lib.rt:45:32
+mul-distance : tie.Need-mul-distance Inv-loop μ-loop
+mul-distance c = search needs
+
+-- src/lib.rt:45:28
+shared-slice-read-distance : tie.Need-shared-slice-read-distance Inv-loop μ-loop
+shared-slice-read-distance c = search needs
+
+-- src/lib.rt:45:16
+distance-requires : tie.Need-distance-requires Inv-loop μ-loop
+distance-requires c κs = search needs
+
+-- src/lib.rt:45:9
+slice-write-d : tie.Need-slice-write-d Inv-loop μ-loop
+slice-write-d c = search needs
+
+-- src/lib.rt:46:9
+add-i : tie.Need-add-i Inv-loop μ-loop
+add-i c = search needs
+
+-- src/lib.rt:44:5
+loop-less : tie.Need-loop-less Inv-loop μ-loop
+loop-less c = search needs
+
+-- src/lib.rt:44:5
+loop-again : tie.Need-loop-again Inv-loop μ-loop
+loop-again c = search (measured-cases, arith)
+
+-- src/lib.rt:39:1
+same-length : tie.Need-same-length Inv-loop μ-loop
+same-length c = search needs
+
+-- src/lib.rt:39:1
+returns : tie.Need-returns Inv-loop μ-loop
+returns c = search (measured-cases, arith)
+
+pub distances-spec : {M : Type 1} → statement M
+distances-spec =
+    tie.close
+    (tie.spec
+    Inv-loop
+    μ-loop
+    loop-holds
+    mul-distance
+    shared-slice-read-distance
+    distance-requires
+    slice-write-d
+    add-i
+    loop-less
+    loop-again
+    same-length
+    returns)

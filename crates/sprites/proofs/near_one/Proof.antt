@@ -1,0 +1,21 @@
+use native.Mathlib.Omega.{arith}
+use Rattle.sprites.proofs.Cases.{near-cases}
+use Rattle.sprites.proofs.near_one.Statement.{statement}
+use Rattle.sprites.proofs.near_one.Tie as tie
+use Rattle.sprites.proofs.near_one.Reads as reads
+use Rattle.sprites.proofs.near_one.Lts as lts
+
+-- src/lib.rt:55:9
+returns : tie.Need-returns
+returns c = search (near-cases, arith)
+
+-- src/lib.rt:51:1
+returns-2 : tie.Need-returns-2
+returns-2 c = search (near-cases, arith)
+
+-- src/lib.rt:51:1
+returns-3 : tie.Need-returns-3
+returns-3 c = search (near-cases, arith)
+
+pub near-one-spec : {M : Type 1} → statement M
+near-one-spec = tie.close (tie.spec returns returns-2 returns-3)
