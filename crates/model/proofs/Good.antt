@@ -5,6 +5,7 @@ use mathlib.Core.Bool.{Bool, true, false, cond, _&&_}
 use mathlib.Core.List.{List, [], _∷_}
 use Prim.Native.Nat.{ℕ, zero, suc, _+_, _*_, _/_, _%_, _≤_, _<_}
 use native.Mathlib.Omega.{arith}
+use native.Mathlib.Nat.{mod-eq-of-lt}
 use lib.Dec.{T, ltb, eqb, eqb→eq}
 use lib.ListN.{length, set, length-set}
 use borrow.Author.Tests.{ltb-true, ltb-false, eqb-true, eqb-false}
@@ -17,10 +18,10 @@ use Rattle.model.specs.Address.{withOam, stored, placeOf}
 use Rattle.model.specs.Ports.{wroteUnit, wroteMemory, wroteOamBytes, wroteVideo, dmaUnit, dmaOam}
 use Rattle.model.specs.Scroll.{rowDown, copySide}
 use Rattle.model.specs.Line.{marked, statusOf, drawnUnit, drawnLine, picture, idleLine, vblankLine, preRenderLine, blankUnit, oneLine, linesRun, lineCount}
-use Rattle.model.specs.Calls.{Lent, own, other, Call, readCall, writeCall, dmaCall, lineCall, runCall, Outcome, longFor, lineLong, lineSizes, inRange, blocked, order, refusalOf, readDone, writeDone, dmaDone, lineDone, runDone, done, gate, onLent, lentOf, lentMemory, ownMemory, call}
-use Rattle.model.proofs.Kept.{cond-both, and-l, and-r, Good, good, well, Kept, kept-read, kept-write, kept-dma}
+use Rattle.model.specs.Calls.{Lent, own, other, Call, readCall, writeCall, dmaCall, lineCall, runCall, Outcome, outcome, refusal, longFor, lineLong, lineSizes, inRange, blocked, order, refusalOf, readDone, writeDone, dmaDone, lineDone, runDone, done, gate, onLent, lentOf, lentMemory, ownMemory, call}
+use Rattle.model.proofs.Kept.{cond-both, and-l, and-r, Good, good, well, Nums, Kept, kept-refl, kept-read, kept-write, kept-dma}
 use Rattle.model.proofs.Scroll.{down-lt, side-lt}
-use Rattle.model.proofs.Line.{picture-long}
+use Rattle.model.proofs.Line.{picture-long, run-next}
 
 -- ACCEPTED CALLS
 pub record Accepted (c : Call) (s : State) : Type 0 where
@@ -43,14 +44,17 @@ accepted c s e =
     let p = order-zero (longFor c (s .unit) (s .memory)) (isWellFormed (s .unit)) (inRange c) (isDrawing (s .unit) && blocked c) e in
     record { long = p .0; well = p .1; ranged = p .2; free = p .3 }
 
--- what an accepted call has, and the state before it, every call has
-pub on-gate : (P : State → Type 0) (c : Call) (s : State) → (Accepted c s → P (done c s .after)) → P s → P (onLent c s .after)
+-- what an accepted call comes to has it, and a refused one: every call has it
+pub by-gate : (P : Outcome → Type 0) (c : Call) (s : State) → (Accepted c s → P (done c s)) → ((k : ℕ) → P (outcome (refusal (suc k)) s)) → P (onLent c s)
 unfolding onLent
-on-gate P c s f h = go (refusalOf c s) (accepted c s)
+by-gate P c s f h = go (refusalOf c s) (accepted c s)
   where
-    go : (r : ℕ) → (r ≡ 0 → Accepted c s) → P (gate r (done c s) s .after)
+    go : (r : ℕ) → (r ≡ 0 → Accepted c s) → P (gate r (done c s) s)
     go zero a = f (a refl)
-    go (suc k) a = h
+    go (suc k) a = h k
+
+on-gate : (P : State → Type 0) (c : Call) (s : State) → (Accepted c s → P (done c s .after)) → P s → P (onLent c s .after)
+on-gate P c s f h = by-gate (λ (o : Outcome). P (o .after)) c s f (λ k. h)
 
 pub good-of : (u : Ppu) → isWellFormed u ≡ true → Good u
 good-of u e = good u (subst T (sym e) tt)
@@ -144,6 +148,28 @@ call-formed c s = lent-formed c (state (s .unit) (lentMemory (lentOf c) (s .memo
 
 pub call-good : (c : Call) (s : State) → isWellFormed (s .unit) ≡ true → isWellFormed (call c s .after .unit) ≡ true
 call-good c s h = call-formed c s ∙ h
+
+stays : {u u′ : Ppu} → Nums 0 u u′ → Good u → u′ .scanline ≡ (u .scanline + 0) % (lastLine (u .board) + 1)
+stays {u} n g = let l : u .scanline + 0 < lastLine (u .board) + 1 = omega arith in n .scanline ∙ sym (mod-eq-of-lt l)
+
+-- THE NEXT LINE after any call is as many lines further as it reports, modulo the lines of a frame
+done-lines : (c : Call) (s : State) → Good (s .unit) → done c s .after .unit .scanline ≡ (s .unit .scanline + done c s .answer .lines) % (lastLine (s .unit .board) + 1)
+unfolding done readDone writeDone dmaDone lineDone runDone
+done-lines (readCall l a) s g = stays (kept-read (s .unit) g (a % 8) _ (s .memory .cells) .nums) g
+done-lines (writeCall l a b) s g = stays (kept-write (s .unit) g b (a % 8) .nums) g
+done-lines (dmaCall l p) s g = stays (kept-dma p (s .unit) g .nums) g
+done-lines (lineCall l) s g = unfold linesRun in run-next 1 s (omega arith)
+done-lines (runCall l why n) s g = run-next (lineCount why n s) s (omega arith)
+
+pub lent-lines : (c : Call) (s : State) → isWellFormed (s .unit) ≡ true → onLent c s .after .unit .scanline ≡ (s .unit .scanline + onLent c s .answer .lines) % (lastLine (s .unit .board) + 1)
+lent-lines c s h =
+    let g = good-of (s .unit) h in
+    by-gate (λ (o : Outcome). o .after .unit .scanline ≡ (s .unit .scanline + o .answer .lines) % (lastLine (s .unit .board) + 1)) c s
+    (λ a. done-lines c s g) (λ k. stays (kept-refl (s .unit) g .nums) g)
+
+pub call-lines : (c : Call) (s : State) → isWellFormed (s .unit) ≡ true → call c s .after .unit .scanline ≡ (s .unit .scanline + call c s .answer .lines) % (lastLine (s .unit .board) + 1)
+unfolding call
+call-lines c s h = lent-lines c (state (s .unit) (lentMemory (lentOf c) (s .memory))) h
 
 -- THE MEMORY: each part as long as before
 pub record SameCells (m m′ : Cells) : Type 0 where

@@ -1,0 +1,52 @@
+-- Logs of the exported calls on a saved unit's record: demand 3's words for them.
+use mathlib.Core.Path.{_≡_}
+use mathlib.Core.List.{List, [], _∷_}
+use Prim.Native.Nat.{ℕ, _<_}
+use Rattle.model.specs.Unit.{Memory, state}
+use Rattle.model.specs.Record.{at, unitOf}
+use Rattle.model.specs.Calls.{Call, lentOf, lentMemory, ownMemory, onRecord, Exported, exportedCall}
+use Rattle.model.specs.Reload.{Rig, dataCall, PairOf}
+
+-- a saved unit's record and the unit's own memory
+pub record RecordState : Type 0 where
+  pub bytes : List ℕ
+  pub memory : Memory
+
+abbrev pub recordState : List ℕ → Memory → RecordState
+recordState l m = record { bytes = l; memory = m }
+
+-- what an exported call of a log gives back: its packed answer, the record and the own memory after it, and what it was lent after it
+pub record RecordGiven : Type 0 where
+  pub result : ℕ
+  pub after : RecordState
+  pub lent : Memory
+
+unfoldable pub recordCall : Call → RecordState → RecordGiven
+recordCall c s =
+    let e : Exported = exportedCall c (s .bytes) (lentMemory (lentOf c) (s .memory)) in
+    record { result = e .result; after = recordState (e .bytes) (ownMemory (lentOf c) (s .memory) (e .memory)); lent = e .memory }
+
+unfoldable pub recordTrace : List Call → RecordState → List RecordGiven
+recordTrace [] s = []
+recordTrace (c ∷ cs) s = recordCall c s ∷ recordTrace cs (recordCall c s .after)
+
+-- what answers exported calls: the answer is the one that the call packs, the unit the record's, well formed or not
+abbrev pub recordRig : Rig RecordState
+recordRig =
+    record {
+      next = λ c s. recordCall c s .after;
+      reply = λ c s. onRecord c (s .bytes) (lentMemory (lentOf c) (s .memory)) .answer;
+      lends = λ c s. state (unitOf (s .bytes)) (lentMemory (lentOf c) (s .memory));
+      rests = λ s. state (unitOf (s .bytes)) (s .memory);
+    }
+
+-- two logs of demand 3, from one record and memory: a record of bytes, of any length, byte 14 being 1
+pub record RecordPair (s : RecordState) (la lb : List Call) : Type 0 where
+  pub small : (k : ℕ) → at (s .bytes) k < 256
+  pub pair : PairOf recordRig dataCall s la lb
+
+-- records and memories that are equal, and answer every further list of calls alike, on any memory
+pub record RecordAlike (s t : RecordState) : Type 0 where
+  pub records : s .bytes ≡ t .bytes
+  pub memories : s .memory ≡ t .memory
+  pub further : (m : Memory) (cs : List Call) → recordTrace cs (recordState (s .bytes) m) ≡ recordTrace cs (recordState (t .bytes) m)
