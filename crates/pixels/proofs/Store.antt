@@ -21,6 +21,11 @@ unfolding storeTab
 length-storeTab g at zero l = refl
 length-storeTab g at (suc n) l = length-set (storeTab g at n l) (at + n) (g n) ∙ length-storeTab g at n l
 
+-- one store more
+pub store-more : (g : ℕ → ℕ) (at n : ℕ) (l l′ : List ℕ) (v : ℕ) → l′ ≡ storeTab g at n l → v ≡ g n → set l′ (at + n) v ≡ storeTab g at (n + 1) l
+unfolding storeTab
+store-more g at n l l′ v e h = rw (add-one n, e, h)
+
 -- two functions that agree below n
 pub store-cong : (f g : ℕ → ℕ) (at n : ℕ) (l : List ℕ) → ((j : ℕ) → j < n → f j ≡ g j) → storeTab f at n l ≡ storeTab g at n l
 unfolding storeTab
