@@ -1,21 +1,21 @@
 -- What each function comes to, from what its calls and tests say: laws over plain variables.
-use Prim.Native.Nat.{ℕ, zero, suc, _+_, _-_, _*_, _/_, _%_, _<_}
-use mathlib.Core.Path.{_≡_, refl, sym, _∙_}
-use mathlib.Core.Bool.{Bool, true, false, cond, _&&_, _||_, and-false}
+use Prim.Native.Nat.{ℕ, _+_, _-_, _*_, _%_, _<_}
+use mathlib.Core.Path.{_≡_, _∙_}
+use mathlib.Core.Bool.{Bool, true, false, cond, _&&_, and-false}
 use mathlib.Core.List.{List, _++_}
 use native.Mathlib.Omega.{arith}
 use borrow.Author.Tests.{eq-eqb, ne-eqb, lt-ltb}
-use lib.Dec.{eqb, ltb}
+use lib.Dec.{ltb}
 use lib.ListN.{length, getD, set, drop}
 use Rattle.model.specs.Unit.{bit}
 use Rattle.model.specs.Line.{tab, merged}
 use Rattle.model.specs.Record.{bitByte}
 use Rattle.model.specs.Background.{colourOf, numberOf}
 use Rattle.pixels.specs.Pack.{byteOf, spreadOf, pixelsBy}
-use Rattle.pixels.specs.Row.{storeTab, overOne, overTab}
+use Rattle.pixels.specs.Row.{storeTab, overOne}
 use Rattle.pixels.proofs.Colours.{tile-bytes}
 use Rattle.pixels.proofs.Store.{store-cong, rest-at}
-use Rattle.model.proofs.Tab.{getD-tab, tab-more}
+use Rattle.model.proofs.Tab.{tab-more}
 
 -- put_tile
 pub tile-stored : (low high palette at n : ℕ) (l : List ℕ) → palette < 4 → n ≡ pixelsBy (spreadOf low + 2 * spreadOf high) palette

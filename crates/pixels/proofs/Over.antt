@@ -93,7 +93,7 @@ tab-in g at (suc n) l k h a b =
 abbrev pub placed : (ℕ → ℕ) → ℕ → ℕ → ℕ
 placed g x p = cond (leb x p && ltb p (x + 8)) (g (p - x)) 0
 
--- 0 over anything, and anything over 0
+-- 0 over a pixel leaves it
 pub over-none : (v : ℕ) → overOne v 0 ≡ v
 over-none zero = refl
 over-none (suc v) = rw (ne-eqb (suc v) 0 (λ e. omega arith))
