@@ -22,6 +22,8 @@ const ONES: u64 = 0x0101010101010101;
 const SPREAD: u64 = 0x0100804020100804;
 // Times a byte's low seven bits: bit k comes to the lowest bit of byte k, 7k places up. No two bits meet.
 const SPREAD_BACK: u64 = 0x0000040810204081;
+// 1 in the highest byte: the rightmost pixel.
+const RIGHTMOST: u64 = 0x0100000000000000;
 // 3 in each byte: a colour and 3 more is 4 or more unless the colour is 0.
 const THREES: u64 = 0x0303030303030303;
 // 4 in each byte.
@@ -41,7 +43,7 @@ pub fn spread_back(b: u8) -> u64
 {
     let low = bits::wide64(bits::low8(b, 7));
     let high = bits::wide64(b >> 7);
-    (low * SPREAD_BACK & ONES) + high * 0x0100000000000000
+    (low * SPREAD_BACK & ONES) + high * RIGHTMOST
 }
 
 // The pixel numbers of eight colours: 0 where the colour is 0, else 4q + colour.
