@@ -19,9 +19,10 @@ use Rattle.model.specs.Ports.{wroteUnit, wroteMemory, wroteOamBytes, wro
 use Rattle.model.specs.Scroll.{rowDown, copySide}
 use Rattle.model.specs.Line.{marked, statusOf, drawnUnit, drawnLine, picture, idleLine, vblankLine, preRenderLine, blankUnit, oneLine, linesRun, lineCount}
 use Rattle.model.specs.Calls.{Lent, own, other, Call, readCall, writeCall, dmaCall, lineCall, runCall, Outcome, outcome, refusal, longFor, lineLong, lineSizes, inRange, blocked, order, refusalOf, readDone, writeDone, dmaDone, lineDone, runDone, done, gate, onLent, lentOf, lentMemory, ownMemory, call}
-use Rattle.model.proofs.Kept.{cond-both, and-l, and-r, Good, good, well, Nums, Kept, kept-refl, kept-read, kept-write, kept-dma}
+use Rattle.model.proofs.Tests.{cond-both, and-l, and-r}
+use Rattle.model.proofs.Kept.{Good, good, well, Nums, Kept, kept-refl, kept-read, kept-write, kept-dma}
 use Rattle.model.proofs.Scroll.{down-lt, side-lt}
-use Rattle.model.proofs.Line.{picture-long, run-next}
+use Rattle.model.proofs.Line.{picture-long, run-next, run-reports}
 
 -- ACCEPTED CALLS
 pub record Accepted (c : Call) (s : State) : Type 0 where
@@ -101,7 +102,7 @@ blank-good u g = go (eqb (u .scanline) 241) (eqb (u .scanline) (lastLine (u .boa
   where
     go : (x y : Bool) → eqb (u .scanline) 241 ≡ x → eqb (u .scanline) (lastLine (u .board)) ≡ y → Sound u (cond x (vblankLine u) (cond y (preRenderLine u) (idleLine u)))
     go true y e f = let h = eqb-true (u .scanline) 241 e in record { good = omega arith; board = refl }
-    go false true e f = record { good = record { status = refl; v = pick-lt 32768 (isRendering u) (u .t) (u .v) (g .t) (g .v); t = g .t; x = g .x; scanline = omega arith }; board = refl }
+    go false true e f = record { good = record { status = omega arith; v = pick-lt 32768 (isRendering u) (u .t) (u .v) (g .t) (g .v); t = g .t; x = g .x; scanline = omega arith }; board = refl }
     go false false e f = let h = eqb-false (u .scanline) (lastLine (u .board)) f in record { good = omega arith; board = refl }
 
 pub line-sound : (s : State) → Good (s .unit) → Sound (s .unit) (oneLine s .unit)
@@ -159,7 +160,7 @@ done-lines (readCall l a) s g = stays (kept-read (s .unit) g (a % 8) _ (s .memor
 done-lines (writeCall l a b) s g = stays (kept-write (s .unit) g b (a % 8) .nums) g
 done-lines (dmaCall l p) s g = stays (kept-dma p (s .unit) g .nums) g
 done-lines (lineCall l) s g = unfold linesRun in run-next 1 s (omega arith)
-done-lines (runCall l why n) s g = run-next (lineCount why n s) s (omega arith)
+done-lines (runCall l why n) s g = run-reports l why n s (omega arith)
 
 pub lent-lines : (c : Call) (s : State) → isWellFormed (s .unit) ≡ true → onLent c s .after .unit .scanline ≡ (s .unit .scanline + onLent c s .answer .lines) % (lastLine (s .unit .board) + 1)
 lent-lines c s h =

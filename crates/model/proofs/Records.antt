@@ -17,7 +17,8 @@ use Rattle.model.specs.Calls.{access, loadCall, Call, Lent, own, other, 
 use Rattle.model.specs.Reload.{plain, end, endOf, total, totalOf, Within, dataCall, QuietOf, QuietLog, Quiet, Places, Bytes, reload, PairOf, Pair}
 use Rattle.model.specs.RecordLog.{RecordState, recordState, RecordGiven, recordCall, recordTrace, recordRig, RecordPair, RecordAlike}
 use Rattle.model.proofs.Record.{unit-record-unit, record-unit-record, record-long, load-save, loaded, unit-well}
-use Rattle.model.proofs.Kept.{cond-both, done-num}
+use Rattle.model.proofs.Tests.{cond-both}
+use Rattle.model.proofs.Kept.{done-num}
 use Rattle.model.proofs.Good.{Accepted, by-gate, call-good}
 use Rattle.model.proofs.Reloaded.{own-same, demand3}
 
