@@ -20,9 +20,9 @@ use Rattle.model.specs.Scroll.{rowDown, copySide}
 use Rattle.model.specs.Line.{marked, statusOf, drawnUnit, drawnLine, picture, idleLine, vblankLine, preRenderLine, blankUnit, oneLine, linesRun, lineCount}
 use Rattle.model.specs.Calls.{Lent, own, other, Call, readCall, writeCall, dmaCall, lineCall, runCall, Outcome, outcome, refusal, longFor, lineLong, lineSizes, inRange, blocked, order, refusalOf, readDone, writeDone, dmaDone, lineDone, runDone, done, gate, onLent, lentOf, lentMemory, ownMemory, call}
 use Rattle.model.proofs.Tests.{cond-both, and-l, and-r}
+use Rattle.model.proofs.Line.{picture-long, run-next, run-reports}
 use Rattle.model.proofs.Kept.{Good, good, well, Nums, Kept, kept-refl, kept-read, kept-write, kept-dma}
 use Rattle.model.proofs.Scroll.{down-lt, side-lt}
-use Rattle.model.proofs.Line.{picture-long, run-next, run-reports}
 
 -- ACCEPTED CALLS
 pub record Accepted (c : Call) (s : State) : Type 0 where

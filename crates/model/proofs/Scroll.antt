@@ -91,6 +91,11 @@ down-lt v h =
     either true x y p q = p
     either false x y p q = q
 
+-- t's bits 10 and 4-0 copied into v: bits 14-11 stay v's
+pub side-top : (t v : ℕ) → copySide t v / 2048 ≡ v / 2048
+unfolding copySide
+side-top t v = omega arith
+
 pub side-lt : (t v : ℕ) → v < 32768 → copySide t v < 32768
 unfolding copySide
 side-lt t v h = omega arith
@@ -173,7 +178,7 @@ module _ (f n r : ℕ) (hn : n < 4) (hr : r < 32) where
   side-copy c f′ n′ r′ c′ h i j k =
       let a : address f n r c / 2048 ≡ f * 2 + n / 2 = omega arith in
       let b : address f′ n′ r′ c′ / 1024 % 2 ≡ n′ % 2 = rw (ten f′ n′ r′ c′ j k) (omega arith) in
-      rw (a, b, row-is f n r c hn hr h, column-is f′ n′ r′ c′ i j k) (omega arith)
+      omega (arith, row-is f n r c hn hr h, column-is f′ n′ r′ c′ i j k)
     where
       ten : (f n r c : ℕ) → r < 32 → c < 32 → address f n r c / 1024 ≡ f * 4 + n
       ten f n r c h k = omega arith
