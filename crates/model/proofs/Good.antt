@@ -1,24 +1,24 @@
 -- What every call keeps, of any kind, on any line, refused or not: a well-formed unit stays well formed, the board stays, and so does the length of
 -- each memory.
-use mathlib.Core.Path.{_≡_, refl, sym, ap, _∙_, subst}
+use mathlib.Core.Path.{_≡_, refl, sym, _∙_, subst}
 use mathlib.Core.Bool.{Bool, true, false, cond, _&&_}
 use mathlib.Core.List.{List, [], _∷_}
-use Prim.Native.Nat.{ℕ, zero, suc, _+_, _*_, _/_, _%_, _≤_, _<_}
+use Prim.Native.Nat.{ℕ, zero, suc, _+_, _%_, _<_}
 use native.Mathlib.Omega.{arith}
 use native.Mathlib.Nat.{mod-eq-of-lt}
 use lib.Dec.{T, ltb, eqb, eqb→eq}
 use lib.ListN.{length, set, length-set}
-use borrow.Author.Tests.{ltb-true, ltb-false, eqb-true, eqb-false}
+use borrow.Author.Tests.{ltb-true, eqb-true, eqb-false}
 use Rattle.model.specs.declared.Ppu.{Ppu}
 use Rattle.model.specs.declared.Board.{Board}
 use Rattle.model.specs.declared.Place.{Place}
 use Rattle.model.specs.declared.Place.the-variants.{Pattern, Nametable, Palette}
-use Rattle.model.specs.Unit.{Cells, Memory, VideoLengths, Lengths, withCells, State, state, lineLength, lastLine, isWellFormed, isDrawing, isRendering, dropsOam}
-use Rattle.model.specs.Address.{withOam, stored, placeOf}
-use Rattle.model.specs.Ports.{wroteUnit, wroteMemory, wroteOamBytes, wroteVideo, dmaUnit, dmaOam}
-use Rattle.model.specs.Scroll.{rowDown, copySide}
-use Rattle.model.specs.Line.{marked, statusOf, drawnUnit, drawnLine, picture, idleLine, vblankLine, preRenderLine, blankUnit, oneLine, linesRun, lineCount}
-use Rattle.model.specs.Calls.{Lent, own, other, Call, readCall, writeCall, dmaCall, lineCall, runCall, Outcome, outcome, refusal, longFor, lineLong, lineSizes, inRange, blocked, order, refusalOf, readDone, writeDone, dmaDone, lineDone, runDone, done, gate, onLent, lentOf, lentMemory, ownMemory, call}
+use Rattle.model.specs.Unit.{Cells, Memory, Lengths, State, state, lineLength, lastLine, isWellFormed, isDrawing, isRendering, dropsOam}
+use Rattle.model.specs.Address.{stored, placeOf}
+use Rattle.model.specs.Ports.{wroteUnit, wroteMemory, wroteOamBytes, wroteVideo, dmaOam}
+use Rattle.model.specs.Scroll.{rowDown}
+use Rattle.model.specs.Line.{marked, statusOf, drawnUnit, drawnLine, idleLine, vblankLine, preRenderLine, blankUnit, oneLine, linesRun, lineCount}
+use Rattle.model.specs.Calls.{Lent, own, other, Call, readCall, writeCall, dmaCall, lineCall, runCall, Outcome, outcome, refusal, longFor, lineLong, inRange, blocked, order, refusalOf, readDone, writeDone, dmaDone, lineDone, runDone, done, gate, onLent, lentOf, lentMemory, ownMemory, call}
 use Rattle.model.proofs.Tests.{cond-both, and-l, and-r}
 use Rattle.model.proofs.Line.{picture-long, run-next, run-reports}
 use Rattle.model.proofs.Kept.{Good, good, well, Nums, Kept, kept-refl, kept-read, kept-write, kept-dma}

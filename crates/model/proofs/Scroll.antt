@@ -1,13 +1,12 @@
 -- The steps of v: each stays below 32768; what they do to its parts; n columns right in closed form.
 use Prim.Native.Nat.{ℕ, zero, suc, _+_, _-_, _*_, _/_, _%_, _<_, _≤_}
 use mathlib.Core.Bool.{Bool, true, false, cond}
-use mathlib.Core.Path.{_≡_, refl, ap, sym, _∙_}
+use mathlib.Core.Path.{_≡_, ap, _∙_}
 use mathlib.Core.Logic.{⊎-elim, _⊎_, inl, inr}
 use native.Mathlib.Omega.{arith}
 use native.Mathlib.Decide.{decLt}
-use native.Mathlib.Numerals.{add-one}
 use borrow.Author.Tests.{eq-eqb, ne-eqb, lt-ltb, le-ltb}
-use lib.Dec.{eqb, ltb}
+use lib.Dec.{eqb}
 use Rattle.model.specs.declared.Ppu.{Ppu}
 use Rattle.model.specs.Scroll.{fineY, nametable, row, column, turn10, turn11, rowDown, right, rightBy, copySide}
 use Rattle.model.specs.Ports.{stepped}
@@ -83,8 +82,8 @@ down-lt v h =
     ⊎-elim
     (λ (lt : fineY v < 7). rw (lt-ltb (fineY v) 7 lt) (omega arith))
     (λ (ge : 7 ≤ fineY v).
-      rw (le-ltb (fineY v) 7 ge)
-      (either (eqb (row v) 29) _ _ (turn11-lt (v % 4096 - 29 * 32) (omega arith)) (either (eqb (row v) 31) _ _ (omega arith) (omega arith))))
+    rw (le-ltb (fineY v) 7 ge)
+    (either (eqb (row v) 29) _ _ (turn11-lt (v % 4096 - 29 * 32) (omega arith)) (either (eqb (row v) 31) _ _ (omega arith) (omega arith))))
     (lt-or-ge (fineY v) 7)
   where
     either : (b : Bool) (x y : ℕ) → x < 32768 → y < 32768 → cond b x y < 32768
