@@ -182,7 +182,7 @@ fn put_refused(number: u8, out: &mut [u8], at: usize) -> usize
 // The text of an entry's answer, stored in the output from place `at` on; the place behind it.
 fn put_text(e: Entry, x: Access, out: &mut [u8], at: usize) -> usize
     requires { ⌜ Printable e x × (at + 15 ≤ length (now out)) ⌝ }
-    ensures { λ r. ⌜ (now (out .exit) ≡ sets (now (out .entry)) at (textFor e x)) × (r ≡ at + length (textFor e x)) ⌝ }
+    ensures { λ r. ⌜ (now (out .exit) ≡ sets (now (out .entry)) at (entryText e (x .answer) (x .unit .scanline))) × (r ≡ at + length (entryText e (x .answer) (x .unit .scanline))) ⌝ }
 {
     let a = x.answer;
     if a.number != 0 {

@@ -6,12 +6,13 @@ use Prim.Native.Nat.{ℕ, zero, suc, _+_, _*_, _/_, _%_, _≤_, _<_}
 use native.Mathlib.Omega.{arith}
 use lib.Dec.{eqb, ltb}
 use lib.ListN.{length, drop, length-append}
+use Rattle.model.specs.declared.Answer.{Answer}
 use Rattle.model.specs.declared.Entry.{Entry}
 use Rattle.model.specs.declared.Entry.the-variants.{Read, Write, Run, End, Refused}
 use Rattle.model.specs.Unit.{State, state}
 use Rattle.model.specs.Calls.{own, readCall, writeCall, runCall, Outcome, outcome, refusal, onLent}
 use Rattle.model.specs.Log.{Record, whole, cut, recordsOf, recordKnown, recordCall, playOne, recordEntry, entryOf, playEntry, decimal, readText, runText, refusedText, doneText, kindOf, textOf, entryDone, entryText, ends, playedText, playedState, playEnds}
-use Rattle.model.proofs.Kept.{cond-both}
+use Rattle.model.proofs.Tests.{cond-both}
 use Rattle.model.proofs.Good.{by-gate, good-of, done-sound}
 
 -- AN ENTRY comes to what its record comes to
@@ -31,18 +32,17 @@ entry-plays cut s = refl
 
 -- and prints what its record prints
 known-prints : (x y z : Bool) (a b : ℕ) (o : Outcome) (s : State)
-    → entryText (cond x (cond y (Read a) (cond z (Write a b) (Run a))) (Refused 5)) (cond x o (outcome (refusal 5) s))
-    ≡ cond (eqb (cond x o (outcome (refusal 5) s) .answer .number) 0)
-      (cond y (readText (cond x o (outcome (refusal 5) s) .answer .byte))
-      (cond z [] (runText (cond x o (outcome (refusal 5) s) .after .unit .scanline) (cond x o (outcome (refusal 5) s) .answer .nmi))))
-      (refusedText (cond x o (outcome (refusal 5) s) .answer .number))
+    → let p : Outcome = cond x o (outcome (refusal 5) s) in
+    entryText (cond x (cond y (Read a) (cond z (Write a b) (Run a))) (Refused 5)) (p .answer) (p .after .unit .scanline)
+    ≡ cond (eqb (p .answer .number) 0) (cond y (readText (p .answer .byte)) (cond z [] (runText (p .after .unit .scanline) (p .answer .nmi))))
+      (refusedText (p .answer .number))
 unfolding entryText entryDone
 known-prints true true z a b o s = refl
 known-prints true false true a b o s = refl
 known-prints true false false a b o s = refl
 known-prints false y z a b o s = refl
 
-pub entry-prints : (r : Record) (s : State) → entryText (recordEntry r) (playOne r s) ≡ textOf r (playOne r s)
+pub entry-prints : (r : Record) (s : State) → entryText (recordEntry r) (playOne r s .answer) (playOne r s .after .unit .scanline) ≡ textOf r (playOne r s)
 unfolding recordEntry playOne recordCall textOf doneText kindOf entryText
 entry-prints (whole k h l b) s =
     known-prints (recordKnown k b) (eqb k 0) (eqb k 1) (h * 256 + l) b
@@ -64,21 +64,21 @@ decimal-short n =
     cond-both (λ (l : List ℕ). length l ≤ 3) (ltb n 10) _ _ (omega arith)
     (cond-both (λ (l : List ℕ). length l ≤ 3) (ltb n 100) _ _ (omega arith) (omega arith))
 
-done-short : (e : Entry) (o : Outcome) → length (entryDone e (o .answer) (o .after .unit .scanline)) ≤ 15
+done-short : (e : Entry) (x : Answer) (n : ℕ) → length (entryDone e x n) ≤ 15
 unfolding entryDone readText runText
-done-short (Read a) o = omega arith
-done-short (Write a b) o = omega arith
-done-short (Run n) o = simp length-append (omega (arith, decimal-short (o .after .unit .scanline)))
-done-short End o = omega arith
-done-short (Refused n) o = omega arith
+done-short (Read a) x n = omega arith
+done-short (Write a b) x n = omega arith
+done-short (Run k) x n = simp length-append (omega (arith, decimal-short n))
+done-short End x n = omega arith
+done-short (Refused k) x n = omega arith
 
 refused-short : (n : ℕ) → length (refusedText n) ≤ 15
 unfolding refusedText
 refused-short n = simp length-append (omega (arith, decimal-short n))
 
-pub text-short : (e : Entry) (o : Outcome) → length (entryText e o) ≤ 15
+pub text-short : (e : Entry) (x : Answer) (n : ℕ) → length (entryText e x n) ≤ 15
 unfolding entryText
-text-short e o = cond-both (λ (l : List ℕ). length l ≤ 15) (eqb (o .answer .number) 0) _ _ (done-short e o) (refused-short (o .answer .number))
+text-short e x n = cond-both (λ (l : List ℕ). length l ≤ 15) (eqb (x .number) 0) _ _ (done-short e x n) (refused-short (x .number))
 
 -- THE PARTS OF A LOG. What is left of a log begins with a record, unless nothing is left
 pub records-front : (l : List ℕ) → 0 < length l → (r : Record) × (recordsOf l ≡ r ∷ recordsOf (drop 4 l))
@@ -103,7 +103,7 @@ module _ (l : List ℕ) (s : State) (h : 0 < length l) where
   abbrev first : Outcome
   first = playEntry (entryOf (recordsOf l)) s
 
-  pub text-first : playedText (recordsOf l) s ≡ entryText (entryOf (recordsOf l)) first ++ cond (ends first) [] (playedText (recordsOf (drop 4 l)) (first .after))
+  pub text-first : playedText (recordsOf l) s ≡ entryText (entryOf (recordsOf l)) (first .answer) (first .after .unit .scanline) ++ cond (ends first) [] (playedText (recordsOf (drop 4 l)) (first .after))
   unfolding playedText entryOf
   text-first =
       let (r, e) = records-front l h in
