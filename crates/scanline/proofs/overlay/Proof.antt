@@ -1,3 +1,4 @@
+use Rattle.scanline.proofs.Laws.{zeros-at, over-1}
 use borrow.Author.Needs.{needs}
 use Rattle.scanline.proofs.overlay.Statement.{statement}
 use Rattle.scanline.proofs.overlay.Tie as tie
@@ -13,7 +14,7 @@ slice-aggregate-sprite-row c = search needs
 
 -- src/lib.rt:103:5
 sprite-row-requires : tie.Need-sprite-row-requires
-sprite-row-requires c κs = ?
+sprite-row-requires c κs = ((search needs, search needs, search needs, search needs, search needs), (λ p. zeros-at 264 p, search needs, search needs))
 
 -- src/lib.rt:104:19
 slice-aggregate-clear : tie.Need-slice-aggregate-clear

@@ -1,3 +1,5 @@
+use Rattle.scanline.proofs.Laws.{over-2, over-3, hit-2, hit-3}
+use Rattle.scanline.proofs.Cases.{sprites-on, sprites-off, skip-is}
 use borrow.Author.Needs.{needs}
 use Rattle.scanline.proofs.sprites_shown.Statement.{statement}
 use Rattle.scanline.proofs.sprites_shown.Tie as tie
@@ -27,7 +29,7 @@ bit-requires c κs = search needs
 
 -- src/lib.rt:122:13
 returns : tie.Need-returns
-returns c = ?
+returns c = (search over-3, search hit-3, search needs)
 
 -- src/lib.rt:124:27
 bit-requires-2 : tie.Need-bit-requires-2
@@ -39,7 +41,7 @@ hidden-requires c κs = search needs
 
 -- src/lib.rt:125:13
 zero-hits-requires : tie.Need-zero-hits-requires
-zero-hits-requires c κs = ?
+zero-hits-requires c κs = ((search needs, search needs, search needs, search needs), (search needs, search skip-is, search needs, search sprites-on))
 
 -- src/lib.rt:126:54
 slice-aggregate-overlay : tie.Need-slice-aggregate-overlay
@@ -47,7 +49,7 @@ slice-aggregate-overlay c = search needs
 
 -- src/lib.rt:126:9
 overlay-requires : tie.Need-overlay-requires
-overlay-requires c κs = ?
+overlay-requires c κs = ((search needs, search needs, search needs, search needs, search needs), (search needs, search skip-is, search needs, search sprites-on), (search needs, search needs))
 
 -- src/lib.rt:127:9
 same-length : tie.Need-same-length
@@ -59,7 +61,7 @@ returns-2 c = search needs
 
 -- src/lib.rt:109:1
 returns-3 : tie.Need-returns-3
-returns-3 c = ?
+returns-3 c = (search (over-2, sprites-off), search (hit-2, sprites-off), search needs)
 
 pub sprites-shown-spec : {M : Type 1} → statement M
 sprites-shown-spec =

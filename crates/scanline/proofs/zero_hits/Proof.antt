@@ -1,3 +1,4 @@
+use Rattle.scanline.proofs.Laws.{zeros-at, hit-1}
 use borrow.Author.Needs.{needs}
 use Rattle.scanline.proofs.zero_hits.Statement.{statement}
 use Rattle.scanline.proofs.zero_hits.Tie as tie
@@ -13,7 +14,7 @@ slice-aggregate-sprite-zero-row c = search needs
 
 -- src/lib.rt:80:5
 sprite-zero-row-requires : tie.Need-sprite-zero-row-requires
-sprite-zero-row-requires c κs = ?
+sprite-zero-row-requires c κs = (search needs, search needs, search needs, search needs, λ p. zeros-at 264 p)
 
 -- src/lib.rt:81:19
 slice-aggregate-clear : tie.Need-slice-aggregate-clear
