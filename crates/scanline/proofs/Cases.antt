@@ -17,8 +17,8 @@ use Rattle.model.specs.Sprites.{overflows}
 use Rattle.model.specs.Line.{tab, anyOf, marked, hitOf, statusOf, picture, drawnUnit, drawnLine, blankUnit, oneLine, linesRun, untilVblank, nmiCount}
 use Rattle.model.proofs.Scroll.{down-lt}
 use Rattle.model.proofs.Kept.{well}
-use Rattle.model.proofs.Good.{good-of, line-sound}
-use Rattle.model.proofs.Line.{until-formula}
+use Rattle.model.proofs.Good.{good-of, line-good}
+use Rattle.model.proofs.Line.{line-board, until-formula}
 use Rattle.scanline.specs.Shown.{LineLengths, backOf}
 use Rattle.scanline.proofs.Laws.{back-1, back-2, drawn-off}
 
@@ -122,12 +122,12 @@ module _ (l r n o : List ℕ) (most : ℕ) (u₀ : Ppu) (b₀ : List ℕ) where
       → state u′ (lineMemory l r n o b′) ≡ oneLine (state u (lineMemory l r n o b)) → length b′ ≡ length b → Running l r n o most u₀ b₀ b′ u′ (i + 1)
   unfolding linesRun
   run-again b u i b′ u′ inv h e k =
-      let sound = line-sound (state u (lineMemory l r n o b)) (good-of u (inv .formed)) in
+      let s : State = state u (lineMemory l r n o b) in
       let d : u′ ≡ oneLine (state u (lineMemory l r n o b)) .unit = ap (λ (s : State). s .unit) e in
-      let board : u′ .board ≡ u .board = ap (λ (w : Ppu). w .board) d ∙ sound .board in
+      let board : u′ .board ≡ u .board = ap (λ (w : Ppu). w .board) d ∙ line-board s in
       record {
         upto = omega arith;
-        formed = ap isWellFormed d ∙ well _ (sound .good);
+        formed = ap isWellFormed d ∙ well (oneLine s .unit) (line-good s (good-of u (inv .formed)));
         lengths =
             record {
               left = inv .lengths .left;
