@@ -7,19 +7,19 @@
 #include "check.h"
 #include "ppu.h"
 
-enum { UNIT, LEFT, RIGHT, NAMETABLES, OAM, PALETTE, PAGE, BUFFERS };
+enum { UNIT, LEFT, RIGHT, NAMETABLES, OAM, PALETTE, PAGE, LINE, BUFFERS };
 
-static const size_t right_lengths[BUFFERS] = { 16, 4096, 4096, 2048, 256, 32, 256 };
-static const char *const names[BUFFERS] = { "record", "left", "right", "nametables", "oam", "palette", "page" };
+static const size_t right_lengths[BUFFERS] = { 16, 4096, 4096, 2048, 256, 32, 256, 256 };
+static const char *const names[BUFFERS] = { "record", "left", "right", "nametables", "oam", "palette", "page", "line" };
 
 typedef struct {
-    uint8_t *unit, *left, *right, *nametables, *oam, *palette, *page;
+    uint8_t *unit, *left, *right, *nametables, *oam, *palette, *page, *line;
     size_t length[BUFFERS];
 } Machine;
 
 static inline uint8_t **buffer(Machine *m, int which)
 {
-    uint8_t **all[BUFFERS] = { &m->unit, &m->left, &m->right, &m->nametables, &m->oam, &m->palette, &m->page };
+    uint8_t **all[BUFFERS] = { &m->unit, &m->left, &m->right, &m->nametables, &m->oam, &m->palette, &m->page, &m->line };
     return all[which];
 }
 
@@ -111,6 +111,18 @@ static inline uint64_t write_at(Machine *m, unsigned address, unsigned byte)
 static inline uint64_t sprite_dma(Machine *m)
 {
     return ppu_dma(m->unit, m->length[UNIT], m->oam, m->length[OAM], m->page, m->length[PAGE]);
+}
+
+static inline uint64_t one_line(Machine *m)
+{
+    return ppu_line(m->unit, m->length[UNIT], m->left, m->length[LEFT], m->right, m->length[RIGHT], m->nametables, m->length[NAMETABLES],
+                    m->oam, m->length[OAM], m->line, m->length[LINE]);
+}
+
+static inline uint64_t run_lines(Machine *m, unsigned most)
+{
+    return ppu_run(m->unit, m->length[UNIT], (uint16_t)most, m->left, m->length[LEFT], m->right, m->length[RIGHT], m->nametables,
+                   m->length[NAMETABLES], m->oam, m->length[OAM], m->line, m->length[LINE]);
 }
 
 #endif

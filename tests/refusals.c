@@ -2,12 +2,16 @@
    Every unit here has bit 7 of control and status set, so that the NMI level 0 of a refusal is not the unit's own. */
 #include "machine.h"
 
-enum { READ, WRITE, DMA, CALLS };
+/* RUN of five lines, NO_RUN of none */
+enum { READ, WRITE, DMA, A_LINE, RUN, NO_RUN, CALLS };
 
 static const int takes[CALLS][BUFFERS] = {
     { UNIT, LEFT, RIGHT, NAMETABLES, OAM, PALETTE, -1 },
     { UNIT, LEFT, RIGHT, NAMETABLES, OAM, PALETTE, -1 },
     { UNIT, OAM, PAGE, -1 },
+    { UNIT, LEFT, RIGHT, NAMETABLES, OAM, LINE, -1 },
+    { UNIT, LEFT, RIGHT, NAMETABLES, OAM, LINE, -1 },
+    { UNIT, LEFT, RIGHT, NAMETABLES, OAM, LINE, -1 },
 };
 
 static Machine m, before;
@@ -19,28 +23,32 @@ static uint64_t call(int which, unsigned address)
         return read_at(&m, address);
     case WRITE:
         return write_at(&m, address, 0x3C);
-    default:
+    case DMA:
         return sprite_dma(&m);
+    case A_LINE:
+        return one_line(&m);
+    default:
+        return run_lines(&m, which == RUN ? 5 : 0);
     }
 }
 
 /* a good record, warmed up, with this mask and next line */
-static void good_record(unsigned mask, unsigned next_line)
+static void good_record(unsigned mask, unsigned line)
 {
     static const uint8_t record[16] = { 0x80, 0, 0xA0, 0x11, 0x34, 0x21, 0x56, 0x12, 5, 1, 0x9A, 0x5B, 0, 0, 1, 9 };
     memcpy(m.unit, record, 16);
     m.unit[PPU_AT_MASK] = (uint8_t)mask;
-    set_word(m.unit, PPU_AT_NEXT_LINE, next_line);
+    set_word(m.unit, PPU_AT_NEXT_LINE, line);
 }
 
 /* the same with all memory of its right length, scattered */
-static void restart(unsigned mask, unsigned next_line)
+static void restart(unsigned mask, unsigned line)
 {
     for (int i = 0; i < BUFFERS; i++)
         if (m.length[i] != right_lengths[i])
             lend(&m, i, right_lengths[i]);
     scatter(&m, 7);
-    good_record(mask, next_line);
+    good_record(mask, line);
     copy(&before, &m);
 }
 
@@ -201,31 +209,33 @@ static void addresses(void)
 }
 
 /* the number of a read or write of this port by a unit with this mask and next line */
-static unsigned number_while(int which, unsigned port, unsigned mask, unsigned next_line)
+static unsigned number_while(int which, unsigned port, unsigned mask, unsigned line)
 {
-    int drawing = (mask & 0x18) != 0 && (next_line <= 239 || next_line == 261);
+    int drawing = (mask & 0x18) != 0 && (line <= 239 || line == 261);
     return drawing && (port == 7 || (port == 4 && which == READ)) ? 4 : 0;
 }
 
-static void drawing_with(unsigned mask, unsigned next_line)
+static void drawing_with(unsigned mask, unsigned line)
 {
     for (int which = READ; which <= WRITE; which++)
         for (unsigned port = 0; port < 8; port++) {
-            good_record(mask, next_line);
-            EXPECT(ppu_number(call(which, 0x2000 + port)), number_while(which, port, mask, next_line));
+            good_record(mask, line);
+            EXPECT(ppu_number(call(which, 0x2000 + port)), number_while(which, port, mask, line));
         }
-    good_record(mask, next_line);
-    EXPECT(ppu_number(call(DMA, 0)), 0);
+    for (int which = DMA; which < CALLS; which++) {
+        good_record(mask, line);
+        EXPECT(ppu_number(call(which, 0)), 0);
+    }
 }
 
 static void drawing(void)
 {
     static const unsigned masks[] = { 0x00, 0x08, 0x10, 0x18, 0xE7 }, edges[] = { 0, 239, 240, 241, 260, 261 };
     restart(0, 0);
-    for (unsigned next_line = 0; next_line < 262; next_line++)
+    for (unsigned line = 0; line < 262; line++)
         for (int i = 0; i < 5; i++) {
-            at = next_line;
-            drawing_with(masks[i], next_line);
+            at = line;
+            drawing_with(masks[i], line);
         }
     for (unsigned mask = 0; mask < 256; mask++)
         for (int i = 0; i < 6; i++) {
@@ -271,13 +281,37 @@ static void order(void)
                     for (int i = 0; i < 8; i++)
                         together(which, holds, port, lent, fields[i]);
     part("refusals together, of reads and writes: the first in the order 2, 3, 1, 4");
-    for (int lent = 0; lent < 3; lent++) {
-        restart(0, 241);
-        m.unit[PPU_AT_W] = 2;
-        lend_filled(takes[DMA][lent], right_lengths[takes[DMA][lent]] - 1);
-        expect_refused(DMA, 0, 2);
+    for (int which = DMA; which < CALLS; which++)
+        for (int i = 0; takes[which][i] >= 0; i++) {
+            at = which;
+            restart(0x18, 100);
+            m.unit[PPU_AT_W] = 2;
+            lend_filled(takes[which][i], right_lengths[takes[which][i]] - 1);
+            expect_refused(which, 0, 2);
+        }
+    part("refusals together, of sprite DMA, lines and runs: 2 before 3");
+}
+
+/* lengths and the record are tested before a line that does not draw, too */
+static void blank_lines(void)
+{
+    static const struct {
+        int lent;
+        size_t length;
+        unsigned number;
+    } cases[] = { { LINE, 255, 2 }, { LINE, 257, 2 }, { LEFT, 4097, 2 }, { LINE, 256, 3 } };
+    for (int i = 0; i < 4; i++) {
+        restart(0, 0);
+        lend_filled(cases[i].lent, cases[i].length);
+        for (unsigned line = 0; line < 262; line++)
+            for (int which = A_LINE; which < CALLS; which++) {
+                at = line;
+                good_record(line % 4 * 8, line);
+                m.unit[PPU_AT_FINE_X] = cases[i].number == 3 ? 8 : 7;
+                expect_refused(which, 0, cases[i].number);
+            }
     }
-    part("refusals together, of sprite DMA: 2 before 3");
+    part("every line and run, drawn or not: refused with not a byte changed");
 }
 
 int main(void)
@@ -290,6 +324,7 @@ int main(void)
     addresses();
     drawing();
     order();
+    blank_lines();
     release(&m);
     release(&before);
     return verdict("tests/refusals");
