@@ -17,10 +17,10 @@ use Rattle.model.specs.Sprites.{overflows}
 use Rattle.model.specs.Line.{tab, anyOf, marked, hitOf, statusOf, picture, drawnUnit, drawnLine, blankUnit, oneLine, linesRun, untilVblank, nmiCount}
 use Rattle.model.proofs.Scroll.{down-lt}
 use Rattle.model.proofs.Kept.{well}
-use Rattle.model.proofs.Good.{good-of, line-sound}
-use Rattle.model.proofs.Line.{until-formula}
+use Rattle.model.proofs.Good.{good-of, line-good}
+use Rattle.model.proofs.Line.{line-board, until-formula}
 use Rattle.scanline.specs.Shown.{LineLengths, backOf}
-use Rattle.scanline.proofs.Laws.{back-1, back-2}
+use Rattle.scanline.proofs.Laws.{back-1, back-2, drawn-off}
 
 -- the background as shown
 module _ (u : Ppu) (l r n o b₀ b′ : List ℕ) (long : LineLengths (u .board) l r n o b₀) (on : Bool) (eo : on ≡ bit 8 (u .mask)) where
@@ -28,12 +28,22 @@ module _ (u : Ppu) (l r n o b₀ b′ : List ℕ) (long : LineLengths (u .board)
       → length b ≡ length b₀ → length b′ ≡ length b → b ≡ tab (backgroundAt (u .board .wiring) n (tableOf second l r) (u .v) (u .x)) 256
       → ((p : ℕ) → getD b′ p 0 ≡ cond (ltb p k) 0 (getD b p 0)) → b′ ≡ tab (backOf u l r n) 256
   shown-1 second low k b t es el ek h h′ e c =
-      back-1 u l r n o k b b′ (sym eo ∙ t) (ek ∙ rw el) (h′ ∙ h ∙ long .line) (e ∙ rw es) c
+      back-1 u l r n k b b′ (sym eo ∙ t) (ek ∙ rw el) (h′ ∙ h ∙ long .line) (e ∙ rw es) c
 
   pub shown-2 : on ≡ false → length b′ ≡ length b₀ → ((p : ℕ) → getD b′ p 0 ≡ cond (ltb p 256) 0 (getD b₀ p 0)) → b′ ≡ tab (backOf u l r n) 256
-  shown-2 f h c = back-2 u l r n o b₀ b′ (sym eo ∙ f) (h ∙ long .line) c
+  shown-2 f h c = back-2 u l r n b₀ b′ (sym eo ∙ f) (h ∙ long .line) c
 
 pub ruleset shown-cases = (shown-1, shown-2)
+
+-- the mask's bits, from what the code took
+pub sprites-on : (m : ℕ) (b : Bool) → b ≡ bit 16 m → b ≡ true → bit 16 m ≡ true
+sprites-on m b e t = sym e ∙ t
+
+pub sprites-off : (m : ℕ) (b : Bool) → b ≡ bit 16 m → b ≡ false → bit 16 m ≡ false
+sprites-off m b e f = sym e ∙ f
+
+pub skip-is : (m k : ℕ) (b : Bool) → b ≡ bit 4 m → k ≡ cond b 0 8 → k ≡ cond (bit 4 m) 0 8
+skip-is m k b e d = d ∙ rw e
 
 -- the flags
 module _ (s r a : ℕ) (b : Bool) where
@@ -80,6 +90,10 @@ module _ (u x : Ppu) (l r n o : List ℕ) (on : Bool) (eo : on ≡ isRendering u
   unfolding drawnUnit statusOf marked
   unit-2 f d = d ∙ rw (← eo, f)
 
+pub off-1 : (u : Ppu) (l r n o b b′ : List ℕ) (on : Bool) → LineLengths (u .board) l r n o b → length b′ ≡ length b → on ≡ isRendering u → on ≡ false
+    → ((p : ℕ) → getD b′ p 0 ≡ cond (ltb p 256) 0 (getD b p 0)) → b′ ≡ picture u l r n o
+off-1 u l r n o b b′ on long h e f c = drawn-off u l r n o b b′ (sym e ∙ f) (h ∙ long .line) c
+
 -- one line
 module _ (u x : Ppu) (l r n o b b′ : List ℕ) where
   pub line-1 : u .scanline < 240 → x ≡ drawnUnit u l r n o → b′ ≡ picture u l r n o → state x (lineMemory l r n o b′) ≡ oneLine (state u (lineMemory l r n o b))
@@ -108,12 +122,12 @@ module _ (l r n o : List ℕ) (most : ℕ) (u₀ : Ppu) (b₀ : List ℕ) where
       → state u′ (lineMemory l r n o b′) ≡ oneLine (state u (lineMemory l r n o b)) → length b′ ≡ length b → Running l r n o most u₀ b₀ b′ u′ (i + 1)
   unfolding linesRun
   run-again b u i b′ u′ inv h e k =
-      let sound = line-sound (state u (lineMemory l r n o b)) (good-of u (inv .formed)) in
+      let s : State = state u (lineMemory l r n o b) in
       let d : u′ ≡ oneLine (state u (lineMemory l r n o b)) .unit = ap (λ (s : State). s .unit) e in
-      let board : u′ .board ≡ u .board = ap (λ (w : Ppu). w .board) d ∙ sound .board in
+      let board : u′ .board ≡ u .board = ap (λ (w : Ppu). w .board) d ∙ line-board s in
       record {
         upto = omega arith;
-        formed = ap isWellFormed d ∙ well _ (sound .good);
+        formed = ap isWellFormed d ∙ well (oneLine s .unit) (line-good s (good-of u (inv .formed)));
         lengths =
             record {
               left = inv .lengths .left;

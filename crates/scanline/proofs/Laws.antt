@@ -80,7 +80,7 @@ or-false false = refl
 pub any-below : (f g : ℕ → Bool) (n : ℕ) → ((p : ℕ) → p < n → f p ≡ g p) → g n ≡ false → anyOf f n ≡ anyOf g (suc n)
 any-below f g n h e = any-cong f g n h ∙ sym (any-suc g n ∙ rw e (or-false (anyOf g n)))
 
-module _ (u : Ppu) (l r n o : List ℕ) where
+module _ (u : Ppu) (l r n : List ℕ) where
   back-is : (p : ℕ) → backOf u l r n p ≡ backgroundShown (u .mask) p (backgroundOn u l r n p)
   unfolding backOf
   back-is p = refl
@@ -101,6 +101,7 @@ module _ (u : Ppu) (l r n o : List ℕ) where
   unfolding backOf backgroundShown
   back-2 b b′ off h c = tab-ext (backOf u l r n) 256 b′ h (λ p lt. c p ∙ rw (lt-ltb p 256 lt, off))
 
+module _ (u : Ppu) (l r o : List ℕ) where
   -- the sprites: a row of winners cut and merged
   pub over-1 : (k : ℕ) (row row′ b b′ : List ℕ) → bit 16 (u .mask) ≡ true → k ≡ cond (bit 4 (u .mask)) 0 8
       → ((p : ℕ) → getD row p 0 ≡ spriteOn (u .control) l r o (u .scanline) p) → ((p : ℕ) → getD row′ p 0 ≡ cond (ltb p k) 0 (getD row p 0))
@@ -132,20 +133,21 @@ module _ (u : Ppu) (l r n o : List ℕ) where
   unfolding hitLine zeroOf
   hit-2 b off = any-none (λ (p : ℕ). getD b p 0) (zeroOf u l r o) 255 (λ p. over-off (u .mask) p (spriteZeroOn (u .control) l r o (u .scanline) p) off)
 
+module _ (u : Ppu) (l r n o : List ℕ) where
   -- both steps: the picture and its hit
   pub drawn-1 : (b b′ : List ℕ) → isRendering u ≡ true → b ≡ tab (backOf u l r n) 256 → b′ ≡ overLine u l r o b → b′ ≡ picture u l r n o
   unfolding picture overLine overOf pixelOf
   drawn-1 b b′ on e d =
       d
       ∙ tab-cong _ _ 256
-      (λ p lt. rw (on, e, getD-tab (backOf u l r n) 256 p lt, back-is p))
+      (λ p lt. rw (on, e, getD-tab (backOf u l r n) 256 p lt, back-is u l r n p))
 
   pub drawn-2 : (b : List ℕ) (x : Bool) → b ≡ tab (backOf u l r n) 256 → x ≡ hitLine u l r o b → x ≡ anyOf (hitOf u l r n o) 256
   unfolding hitLine zeroOf hitOf
   drawn-2 b x e d =
       d
       ∙ any-below _ (hitOf u l r n o) 255
-      (λ p lt. rw (e, getD-tab (backOf u l r n) 256 p (omega arith), back-is p, lt-ltb p 255 lt))
+      (λ p lt. rw (e, getD-tab (backOf u l r n) 256 p (omega arith), back-is u l r n p, lt-ltb p 255 lt))
       refl
 
   pub drawn-off : (b b′ : List ℕ) → isRendering u ≡ false → length b′ ≡ 256 → ((p : ℕ) → getD b′ p 0 ≡ cond (ltb p 256) 0 (getD b p 0)) → b′ ≡ picture u l r n o

@@ -1,6 +1,6 @@
 // One line, and runs of lines. Inner functions, not public calls: they require the lengths and the well-formed unit
 // that a call has checked.
-// A drawn line: background_shown, zero_hits, overlay, sprites_shown, draw, with_hit, with_overflow, drawn_line.
+// A drawn line: background_shown, zero_hits, overlay, sprites_on, sprites_shown, draw, with_hit, with_overflow, drawn_line.
 // Any line: one_line. Runs: run, until_vblank, nmi_count.
 ghost use mathlib.Core.Path.{_≡_};
 ghost use mathlib.Core.Bool.{cond, true, false, _&&_};
@@ -95,14 +95,37 @@ fn overlay(
     line: &mut [u8],
 )
     requires { ⌜ (length (now left) ≡ 4096) × (length (now right) ≡ 4096) × (length (now oam) ≡ 256) × (length (now list) ≡ 65) × (length (now line) ≡ 256) ⌝ }
-    requires { ⌜ (n ≡ u .scanline) × (skip ≡ cond (bit 4 (u .mask)) 0 8) × (skip ≤ 8) × (bit 16 (u .mask) ≡ true) ⌝ }
-    requires { ⌜ (count ≤ 8) × (take count (now list) ≡ cond (eqb n 0) [] (take 8 (placesOf (covers (u .control) (now oam) (n - 1)) 64))) ⌝ }
+    requires { ⌜ (n ≡ u .scanline) × (skip ≡ cond (bit 4 (u .mask)) 0 8) × (skip ≤ 8) × (bit 16 (u .mask) ≡ true)
+        × (count ≤ 8) × (take count (now list) ≡ cond (eqb n 0) [] (take 8 (placesOf (covers (u .control) (now oam) (n - 1)) 64))) ⌝ }
     ensures { λ _. ⌜ now (line .exit) ≡ overLine u (now (left .entry)) (now (right .entry)) (now (oam .entry)) (now (line .entry)) ⌝ }
 {
     let mut row = [0u8; 264];
     sprites::sprite_row(u.control, n, count, left, right, oam, list, &mut row);
     pixels::clear(&mut row, skip);
     pixels::merge(line, &row);
+}
+
+// The chosen sprites over the line, with mask bit 4; whether sprite 0 hits.
+fn sprites_on(
+    u: Ppu,
+    n: u8,
+    count: usize,
+    left: &[u8],
+    right: &[u8],
+    oam: &[u8],
+    list: &[u8],
+    line: &mut [u8],
+) -> bool
+    requires { ⌜ (length (now left) ≡ 4096) × (length (now right) ≡ 4096) × (length (now oam) ≡ 256) × (length (now list) ≡ 65) × (length (now line) ≡ 256) ⌝ }
+    requires { ⌜ (n ≡ u .scanline) × (bit 16 (u .mask) ≡ true)
+        × (count ≤ 8) × (take count (now list) ≡ cond (eqb n 0) [] (take 8 (placesOf (covers (u .control) (now oam) (n - 1)) 64))) ⌝ }
+    ensures { λ r. ⌜ (now (line .exit) ≡ overLine u (now (left .entry)) (now (right .entry)) (now (oam .entry)) (now (line .entry)))
+        × (r ≡ hitLine u (now (left .entry)) (now (right .entry)) (now (oam .entry)) (now (line .entry))) ⌝ }
+{
+    let skip = hidden(bits::bit(u.mask, 2));
+    let hit = zero_hits(u, n, skip, left, right, oam, line);
+    overlay(u, n, count, skip, left, right, oam, list, line);
+    hit
 }
 
 // The sprites over the line's background, and the flags.
@@ -121,9 +144,7 @@ fn sprites_shown(u: Ppu, left: &[u8], right: &[u8], oam: &[u8], line: &mut [u8])
         if count == 0 {
             return Flags { hit: false, over };
         }
-        let skip = hidden(bits::bit(u.mask, 2));
-        let hit = zero_hits(u, n, skip, left, right, oam, line);
-        overlay(u, n, count, skip, left, right, oam, &list, line);
+        let hit = sprites_on(u, n, count, left, right, oam, &list, line);
         return Flags { hit, over };
     }
     Flags { hit: false, over }

@@ -1,3 +1,4 @@
+use Rattle.scanline.proofs.Cases.{v-small, x-small, down-small, rendering-on, unit-1, unit-2, off-1}
 use borrow.Author.Needs.{needs}
 use Rattle.scanline.proofs.drawn_line.Statement.{statement}
 use Rattle.scanline.proofs.drawn_line.Tie as tie
@@ -17,15 +18,15 @@ rendering-requires c κs = search needs
 
 -- src/lib.rt:183:13
 draw-requires : tie.Need-draw-requires
-draw-requires c κs = ?
+draw-requires c κs = (search needs, search v-small, search x-small, search needs, search rendering-on)
 
 -- src/lib.rt:184:43
 row-down-requires : tie.Need-row-down-requires
-row-down-requires c κs = ?
+row-down-requires c κs = search v-small
 
 -- src/lib.rt:184:13
 copy-side-requires : tie.Need-copy-side-requires
-copy-side-requires c κs = ?
+copy-side-requires c κs = search down-small
 
 -- src/lib.rt:185:36
 with-hit-requires : tie.Need-with-hit-requires
@@ -45,7 +46,7 @@ same-length c = search needs
 
 -- src/lib.rt:186:9
 returns : tie.Need-returns
-returns c = ?
+returns c = (search unit-1, search needs)
 
 -- src/lib.rt:194:5
 clear-requires : tie.Need-clear-requires
@@ -61,7 +62,7 @@ same-length-2 c = search needs
 
 -- src/lib.rt:171:1
 returns-2 : tie.Need-returns-2
-returns-2 c = ?
+returns-2 c = (search unit-2, search off-1)
 
 pub drawn-line-spec : {M : Type 1} → statement M
 drawn-line-spec =

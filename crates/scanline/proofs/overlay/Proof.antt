@@ -1,3 +1,8 @@
+use mathlib.Core.Path.{ap, _∙_}
+use Prim.Native.Nat.{ℕ}
+use denote.Ref.{now}
+use Rattle.model.specs.Sprites.{spriteOn}
+use Rattle.scanline.proofs.Laws.{zeros-at, over-1}
 use borrow.Author.Needs.{needs}
 use Rattle.scanline.proofs.overlay.Statement.{statement}
 use Rattle.scanline.proofs.overlay.Tie as tie
@@ -13,7 +18,7 @@ slice-aggregate-sprite-row c = search needs
 
 -- src/lib.rt:103:5
 sprite-row-requires : tie.Need-sprite-row-requires
-sprite-row-requires c κs = ?
+sprite-row-requires c κs = ((search needs, search needs, search needs, search needs, search needs), (λ p. zeros-at 264 p, search needs, search needs))
 
 -- src/lib.rt:104:19
 slice-aggregate-clear : tie.Need-slice-aggregate-clear
@@ -37,7 +42,12 @@ same-length c = search needs
 
 -- src/lib.rt:86:1
 returns : tie.Need-returns
-returns c = ?
+returns c =
+    let a = c .before .before .before .before .before .before .before .before .before .before .before .before .before .before .before .before .args in
+    let given = c .before .before .before .before .before .before .before .before .before .before .before .before .before .before .before .before .pre .1 in
+    over-1 (a .u) (now (a .left)) (now (a .right)) (now (a .oam)) (a .skip) (c .before .before .before .before .before .before .before .before .before .sprite-row .last .1 .1 .1 .1 .1 .1 .1 .0) (c .before .before .before .before .before .before .clear .last .0) (now (a .line)) _ (given .3) (given .1)
+    (λ p. c .before .before .before .before .before .before .before .before .before .sprite-row .ensures .0 p ∙ ap (λ (n : ℕ). spriteOn (a .u .control) (now (a .left)) (now (a .right)) (now (a .oam)) n p) (given .0))
+    (c .before .before .before .before .before .before .clear .ensures) (c .before .before .merge .ensures)
 
 pub overlay-spec : {M : Type 1} → statement M
 overlay-spec =

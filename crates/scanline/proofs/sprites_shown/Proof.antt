@@ -1,65 +1,53 @@
+use Rattle.scanline.proofs.Laws.{over-2, over-3, hit-2, hit-3}
+use Rattle.scanline.proofs.Cases.{sprites-on, sprites-off}
 use borrow.Author.Needs.{needs}
 use Rattle.scanline.proofs.sprites_shown.Statement.{statement}
 use Rattle.scanline.proofs.sprites_shown.Tie as tie
 use Rattle.scanline.proofs.sprites_shown.Reads as reads
 use Rattle.scanline.proofs.sprites_shown.Lts as lts
 use Rattle.bits.proofs.bit.Reads as bit-reads
-use Rattle.scanline.proofs.hidden.Reads as hidden-reads
-use Rattle.scanline.proofs.overlay.Reads as overlay-reads
-use Rattle.scanline.proofs.zero_hits.Reads as zero-hits-reads
+use Rattle.scanline.proofs.sprites_on.Reads as sprites-on-reads
 use Rattle.sprites.proofs.choose.Reads as choose-reads
 
--- src/lib.rt:115:13
+-- src/lib.rt:138:13
 cast-n : tie.Need-cast-n
 cast-n c = search needs
 
--- src/lib.rt:117:48
+-- src/lib.rt:140:48
 slice-aggregate-choose : tie.Need-slice-aggregate-choose
 slice-aggregate-choose c = search needs
 
--- src/lib.rt:117:9
+-- src/lib.rt:140:9
 choose-requires : tie.Need-choose-requires
 choose-requires c κs = search needs
 
--- src/lib.rt:120:8
+-- src/lib.rt:143:8
 bit-requires : tie.Need-bit-requires
 bit-requires c κs = search needs
 
--- src/lib.rt:122:13
+-- src/lib.rt:145:13
 returns : tie.Need-returns
-returns c = ?
+returns c = (search over-3, search hit-3, search needs)
 
--- src/lib.rt:124:27
-bit-requires-2 : tie.Need-bit-requires-2
-bit-requires-2 c κs = search needs
+-- src/lib.rt:147:61
+slice-aggregate-sprites-on : tie.Need-slice-aggregate-sprites-on
+slice-aggregate-sprites-on c = search needs
 
--- src/lib.rt:124:13
-hidden-requires : tie.Need-hidden-requires
-hidden-requires c κs = search needs
+-- src/lib.rt:147:13
+sprites-on-requires : tie.Need-sprites-on-requires
+sprites-on-requires c κs = ((search needs, search needs, search needs, search needs, search needs), (search needs, search sprites-on, search needs, search needs))
 
--- src/lib.rt:125:13
-zero-hits-requires : tie.Need-zero-hits-requires
-zero-hits-requires c κs = ?
-
--- src/lib.rt:126:54
-slice-aggregate-overlay : tie.Need-slice-aggregate-overlay
-slice-aggregate-overlay c = search needs
-
--- src/lib.rt:126:9
-overlay-requires : tie.Need-overlay-requires
-overlay-requires c κs = ?
-
--- src/lib.rt:127:9
+-- src/lib.rt:148:9
 same-length : tie.Need-same-length
 same-length c = search needs
 
--- src/lib.rt:127:9
+-- src/lib.rt:148:9
 returns-2 : tie.Need-returns-2
 returns-2 c = search needs
 
--- src/lib.rt:109:1
+-- src/lib.rt:132:1
 returns-3 : tie.Need-returns-3
-returns-3 c = ?
+returns-3 c = (search (over-2, sprites-off), search (hit-2, sprites-off), search needs)
 
 pub sprites-shown-spec : {M : Type 1} → statement M
 sprites-shown-spec =
@@ -70,11 +58,8 @@ sprites-shown-spec =
     choose-requires
     bit-requires
     returns
-    bit-requires-2
-    hidden-requires
-    zero-hits-requires
-    slice-aggregate-overlay
-    overlay-requires
+    slice-aggregate-sprites-on
+    sprites-on-requires
     same-length
     returns-2
     returns-3)

@@ -1,3 +1,8 @@
+use mathlib.Core.Path.{ap, _∙_}
+use Prim.Native.Nat.{ℕ}
+use denote.Ref.{now}
+use Rattle.model.specs.Sprites.{spriteZeroOn}
+use Rattle.scanline.proofs.Laws.{zeros-at, hit-1}
 use borrow.Author.Needs.{needs}
 use Rattle.scanline.proofs.zero_hits.Statement.{statement}
 use Rattle.scanline.proofs.zero_hits.Tie as tie
@@ -13,7 +18,7 @@ slice-aggregate-sprite-zero-row c = search needs
 
 -- src/lib.rt:80:5
 sprite-zero-row-requires : tie.Need-sprite-zero-row-requires
-sprite-zero-row-requires c κs = ?
+sprite-zero-row-requires c κs = (search needs, search needs, search needs, search needs, λ p. zeros-at 264 p)
 
 -- src/lib.rt:81:19
 slice-aggregate-clear : tie.Need-slice-aggregate-clear
@@ -33,7 +38,12 @@ any-both-requires c κs = search needs
 
 -- src/lib.rt:74:1
 returns : tie.Need-returns
-returns c = ?
+returns c =
+    let a = c .before .before .before .before .before .before .before .before .before .before .before .before .args in
+    let given = c .before .before .before .before .before .before .before .before .before .before .before .before .pre .1 in
+    hit-1 (a .u) (now (a .left)) (now (a .right)) (now (a .oam)) (a .skip) (c .before .before .before .before .before .before .sprite-zero-row .last .1 .1 .1 .1 .1 .0) (c .before .before .before .clear .last .0) (now (a .line)) _ (given .3) (given .1)
+    (λ p. c .before .before .before .before .before .before .sprite-zero-row .ensures .0 p ∙ ap (λ (n : ℕ). spriteZeroOn (a .u .control) (now (a .left)) (now (a .right)) (now (a .oam)) n p) (given .0))
+    (c .before .before .before .clear .ensures) (c .any-both .ensures)
 
 pub zero-hits-spec : {M : Type 1} → statement M
 zero-hits-spec =
