@@ -6,13 +6,16 @@ ghost use mathlib.Core.Path.{_≡_};
 ghost use mathlib.Core.Bool.{cond};
 ghost use mathlib.Core.List.{_++_};
 ghost use Prim.Native.Nat.{_+_, _-_, _*_, _/_, _<_, _≤_, min};
+ghost use lib.Dec.{eqb};
 ghost use lib.ListN.{length, take, drop};
 ghost use lib.Seq.{sets};
 ghost use Rattle.model.specs.Unit.{state};
 ghost use Rattle.model.specs.Log.{
-    whole as wholeRecord, recordsOf, recordEntry, entryOf, playEntry, hexDigit, decimal, readText, runText, refusedText, entryText, ends
+    whole as wholeRecord, recordsOf, recordEntry, entryOf, playEntry, hexDigit, decimal, readText, runText, refusedText, entryText
 };
-ghost use Rattle.log.specs.Play.{playMemory, playOutcome, Printable, IsPlay};
+ghost use Rattle.model.specs.Calls.{onLent, runCall, own, lineOutcome};
+ghost use Rattle.model.specs.Unit.{lineMemory};
+ghost use Rattle.log.specs.Play.{playMemory, playOutcome, Printable, IsStep, IsPlay, wholeBytes};
 use model::Access;
 use model::Entry;
 use model::Ppu;
@@ -194,8 +197,17 @@ fn put_text(e: Entry, x: Access, out: &mut [u8], at: usize) -> usize
             let u = x.unit;
             put_run(u.scanline, a.nmi, out, at)
         }
-        _ => at,
+        Entry::Write(_, _) => at,
+        Entry::End => at,
+        Entry::Refused(_) => at,
     }
+}
+
+fn run_all(u: Ppu, n: u16, left: &[u8], right: &[u8], nametables: &[u8], oam: &[u8], line: &mut [u8]) -> Access
+    ensures { λ r. ⌜ lineOutcome r (now (left .entry)) (now (right .entry)) (now (nametables .entry)) (now (oam .entry)) (now (line .exit)) ≡
+        onLent (runCall own 0 n) (state u (lineMemory (now (left .entry)) (now (right .entry)) (now (nametables .entry)) (now (oam .entry)) (now (line .entry)))) ⌝ }
+{
+    registers::refused(2, u)
 }
 
 // An entry's call on a unit and all the memory that is lent.
@@ -217,8 +229,138 @@ pub fn play_entry(
         Entry::Write(address, byte) => {
             ppu::write(u, address, byte, left, right, nametables, oam, palette)
         }
-        Entry::Run(n) => ppu::run_all(u, n, left, right, nametables, oam, line),
+        Entry::Run(n) => run_all(u, n, left, right, nametables, oam, line),
         Entry::End => registers::done(0, 0, u),
         Entry::Refused(n) => registers::refused(n, u),
     }
+}
+
+// An entry's call, and its text stored in the output from place `at` on.
+fn play_one(
+    e: Entry,
+    u: Ppu,
+    out: &mut [u8],
+    at: usize,
+    left: &mut [u8],
+    right: &mut [u8],
+    nametables: &mut [u8],
+    oam: &mut [u8],
+    palette: &mut [u8],
+    line: &mut [u8],
+) -> Played
+    requires { ⌜ at + 15 ≤ length (now out) ⌝ }
+    ensures { λ r. ⌜ IsStep e (state u (playMemory (now (left .entry)) (now (right .entry)) (now (nametables .entry)) (now (oam .entry)) (now (palette .entry)) (now (line .entry))))
+        (now (out .entry)) at r (playMemory (now (left .exit)) (now (right .exit)) (now (nametables .exit)) (now (oam .exit)) (now (palette .exit)) (now (line .exit))) (now (out .exit)) ⌝ }
+{
+    let x = play_entry(e, u, left, right, nametables, oam, palette, line);
+    let written = put_text(e, x, out, at);
+    let answer = x.answer;
+    let unit = x.unit;
+    Played {
+        unit,
+        written,
+        ended: answer.number == 5,
+    }
+}
+
+// A log played into the output, which must have room for the longest line, 15 bytes, of each record.
+pub fn play(
+    u: Ppu,
+    log: &[u8],
+    out: &mut [u8],
+    left: &mut [u8],
+    right: &mut [u8],
+    nametables: &mut [u8],
+    oam: &mut [u8],
+    palette: &mut [u8],
+    line: &mut [u8],
+) -> Played
+    requires { ⌜ 15 * ((length (now log) + 3) / 4) ≤ length (now out) ⌝ }
+    ensures { λ r. ⌜ IsPlay (now (log .entry)) (state u (playMemory (now (left .entry)) (now (right .entry)) (now (nametables .entry)) (now (oam .entry)) (now (palette .entry)) (now (line .entry))))
+        (now (out .entry)) r (playMemory (now (left .exit)) (now (right .exit)) (now (nametables .exit)) (now (oam .exit)) (now (palette .exit)) (now (line .exit))) (now (out .exit)) ⌝ }
+{
+    let mut n = u;
+    let mut at = 0;
+    let mut written = 0;
+    while at < log.len() {
+        let s = next(Cursor { at }, log);
+        let e = s.found;
+        let p = play_one(
+            e, n, out, written, left, right, nametables, oam, palette, line,
+        );
+        if p.ended {
+            return p;
+        }
+        let moved = s.next;
+        let after = p.unit;
+        n = after;
+        at = moved.at;
+        written = p.written;
+    }
+    Played {
+        unit: n,
+        written,
+        ended: false,
+    }
+}
+
+// How many of the n bytes of a block can be played: whole records, and all where the log ends.
+fn whole(n: usize, last: bool) -> usize
+    ensures { λ r. ⌜ (r ≡ wholeBytes last n) × (r ≤ n) ⌝ }
+{
+    if last {
+        return n;
+    }
+    n / 4 * 4
+}
+
+// The bytes of a block between two places, moved to its front; how many they are.
+fn keep(block: &mut [u8], from: usize, to: usize) -> usize
+    requires { ⌜ (from ≤ to) × (to ≤ length (now block)) ⌝ }
+    ensures { λ r. ⌜ (now (block .exit) ≡ take (to - from) (drop from (now (block .entry))) ++ drop (to - from) (now (block .entry))) × (r ≡ to - from) ⌝ }
+{
+    let n = to - from;
+    let mut i = 0;
+    while i < n {
+        block[i] = block[from + i];
+        i += 1;
+    }
+    n
+}
+
+// A block of a longer log: its first n bytes hold what is left of the block before it and what was read. Whole records are played;
+// the bytes of a record that the block cuts are moved to its front, or played as a cut record where the log ends.
+pub fn play_block(
+    u: Ppu,
+    block: &mut [u8],
+    n: usize,
+    last: bool,
+    out: &mut [u8],
+    left: &mut [u8],
+    right: &mut [u8],
+    nametables: &mut [u8],
+    oam: &mut [u8],
+    palette: &mut [u8],
+    line: &mut [u8],
+) -> Block
+    requires { ⌜ (n ≤ length (now block)) × (15 * ((n + 3) / 4) ≤ length (now out)) ⌝ }
+    ensures { λ r. ⌜ IsPlay (take (wholeBytes last n) (now (block .entry))) (state u (playMemory (now (left .entry)) (now (right .entry)) (now (nametables .entry)) (now (oam .entry)) (now (palette .entry)) (now (line .entry))))
+        (now (out .entry)) (r .played) (playMemory (now (left .exit)) (now (right .exit)) (now (nametables .exit)) (now (oam .exit)) (now (palette .exit)) (now (line .exit))) (now (out .exit))
+        × (r .kept ≡ n - wholeBytes last n)
+        × (now (block .exit) ≡ take (n - wholeBytes last n) (drop (wholeBytes last n) (now (block .entry))) ++ drop (n - wholeBytes last n) (now (block .entry))) ⌝ }
+{
+    let used = whole(n, last);
+    let played = play(
+        u,
+        &block[..used],
+        out,
+        left,
+        right,
+        nametables,
+        oam,
+        palette,
+        line,
+    );
+    let kept = keep(block, used, n);
+    Block { played, kept }
 }
