@@ -54,15 +54,16 @@ module _ (e : Entry) (u : Ppu) (x : Access) (l r n o p b : List ℕ) where
 pub ruleset plays-cases = (plays-1, plays-2, plays-3, plays-4, plays-5)
 
 -- its text can be printed
-pub printable : (e : Entry) (s : State) (x : Access) (m : Memory) → outcomeOn x m ≡ playEntry e s → Printable e x
-printable (Read a) s x m h = tt
-printable (Write a b) s x m h = tt
-printable (Run n) s x m h = λ z.
-    let f : x .unit .scanline ≡ playEntry (Run n) s .after .unit .scanline = ap (λ (o : Outcome). o .after .unit .scanline) h in
-    let g = run-line n s (ap (λ (o : Outcome). o .answer .number) (sym h) ∙ z) in
+pub printable : (e : Entry) (s : State) (x : Access) (l r n o p b : List ℕ) → playOutcome x l r n o p b ≡ playEntry e s → Printable e x
+unfolding Printable
+printable (Read a) s x l r n o p b h = tt
+printable (Write a c) s x l r n o p b h = tt
+printable (Run k) s x l r n o p b h = λ z.
+    let f : x .unit .scanline ≡ playEntry (Run k) s .after .unit .scanline = ap (λ (y : Outcome). y .after .unit .scanline) h in
+    let g = run-line k s (ap (λ (y : Outcome). y .answer .number) (sym h) ∙ z) in
     omega arith
-printable End s x m h = tt
-printable (Refused n) s x m h = tt
+printable End s x l r n o p b h = tt
+printable (Refused k) s x l r n o p b h = tt
 
 pub step-done : (e : Entry) (s : State) (x : Access) (m : Memory) (out out′ : List ℕ) (at w : ℕ) (y : Played) → outcomeOn x m ≡ playEntry e s
     → out′ ≡ sets out at (entryText e (x .answer) (x .unit .scanline)) → w ≡ at + length (entryText e (x .answer) (x .unit .scanline))

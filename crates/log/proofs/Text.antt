@@ -145,6 +145,7 @@ pub ruleset refused-cases = (refused-text, refused-place)
 
 -- THE TEXT OF AN ANSWER
 pub printed : (e : Entry) (x : Access) (k : ℕ) → e ≡ Run k → Printable e x → x .answer .number ≡ 0 → x .unit .scanline < 1000
+unfolding Printable
 printed e x k p h = rw p at h
 
 module _ (e : Entry) (x : Answer) (n : ℕ) where

@@ -22,7 +22,7 @@ abbrev pub playOutcome : Access → List ℕ → List ℕ → List ℕ → List 
 playOutcome x l r n o p b = outcomeOn x (playMemory l r n o p b)
 
 -- a next line that is printed has at most three digits
-abbrev pub Printable : Entry → Access → Type 0
+unfoldable pub Printable : Entry → Access → Type 0
 Printable (Read a) x = Unit
 Printable (Write a b) x = Unit
 Printable (Run n) x = x .answer .number ≡ 0 → x .unit .scanline < 1000
