@@ -6,7 +6,7 @@ use mathlib.Core.Logic.{⊎-elim}
 use mathlib.Core.List.{List, [], _∷_, _++_, map}
 use native.Mathlib.Omega.{arith}
 use native.Mathlib.Numerals.{add-one}
-use borrow.Author.Tests.{eq-eqb, ne-eqb, lt-ltb}
+use borrow.Author.Tests.{ne-eqb, lt-ltb}
 use lib.Dec.{eqb, ltb}
 use lib.ListN.{length, getD, take}
 use lib.Seq.{take-suc, take-all, getD-take, length-take-le}
@@ -57,12 +57,12 @@ module _ (c n count : ℕ) (o list : List ℕ) (few : count ≤ 8) (long : lengt
   at j lt =
       let P : List ℕ = placesOf (covers c o (n - 1)) 64 in
       let g : getD list j 0 ≡ getD P j 0 =
-          sym (getD-take count list j 0 lt) ∙ ap (λ (l : List ℕ). getD l j 0) (some j lt) ∙ getD-take 8 P j 0 (omega arith) in
+      sym (getD-take count list j 0 lt) ∙ ap (λ (l : List ℕ). getD l j 0) (some j lt) ∙ getD-take 8 P j 0 (omega arith) in
       let w : j < length P =
-          ⊎-elim
-          (λ (h : j < length P). h)
-          (λ (h : length P ≤ j). absurd (omega (arith, full, ap length (some j lt ∙ take-all 8 P (omega arith)))))
-          (lt-or-ge j (length P)) in
+      ⊎-elim
+      (λ (h : j < length P). h)
+      (λ (h : length P ≤ j). absurd (omega (arith, full, ap length (some j lt ∙ take-all 8 P (omega arith)))))
+      (lt-or-ge j (length P)) in
       rw g (places-at (covers c o (n - 1)) 64 j w)
 
   pub listed-small : (j k : ℕ) → j < count → k ≡ getD list j 0 → k < 64
@@ -91,10 +91,10 @@ module _ (c n count : ℕ) (o list : List ℕ) (few : count ≤ 8) (long : lengt
   none-zero z left right p =
       ⊎-elim
       (λ (some : 0 < n).
-        let P : List ℕ = placesOf (covers c o (n - 1)) 64 in
-        let w : take 8 P ≡ [] = rw (z, ne-eqb n 0 (λ d. omega arith)) at (sym e) in
-        let k : countOf (covers c o (n - 1)) 64 ≡ 0 = sym (length-places (covers c o (n - 1)) 64) ∙ ap length (none-taken P w) in
-        rw (count-first (covers c o (n - 1)) 63 k, and-false (ltb 0 n)))
+      let P : List ℕ = placesOf (covers c o (n - 1)) 64 in
+      let w : take 8 P ≡ [] = rw (z, ne-eqb n 0 (λ d. omega arith)) at (sym e) in
+      let k : countOf (covers c o (n - 1)) 64 ≡ 0 = sym (length-places (covers c o (n - 1)) 64) ∙ ap length (none-taken P w) in
+      rw (count-first (covers c o (n - 1)) 63 k, and-false (ltb 0 n)))
       (λ (none : n ≤ 0). let d : n ≡ 0 = omega arith in rw d)
       (lt-or-ge 0 n)
 
@@ -147,4 +147,4 @@ module _ (c n m : ℕ) (left right o : List ℕ) (b : Bool) (u : n ≡ 0 → ⊥
 pub zero-covers : (c : ℕ) (o : List ℕ) (m : ℕ) (b : Bool) → b ≡ covers c o m 0 → b ≡ true → covers c o m 0 ≡ true
 zero-covers c o m b e t = sym e ∙ t
 
-pub ruleset zero-cases = (zero-1, zero-2, zero-3)
+pub ruleset zero-cases = (zero-1, zero-2, zero-3, zero-covers)
