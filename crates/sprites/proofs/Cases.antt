@@ -96,17 +96,14 @@ module _ (c : ℕ) (o : List ℕ) (n i y r : ℕ) (e : y ≡ getD o (4 * i) 0) w
   row-3 k z = omega (arith, covers-to c o n i k, height-le c, y-at o i)
 
 module _ (c : ℕ) (o : List ℕ) (n i y r g h : ℕ) (e : y ≡ getD o (4 * i) 0) (w : h ≡ g) (f : g ≡ height c) where
-  pub row-4 : covers c o n i ≡ true → 1 ≤ h
-  row-4 k = omega (arith, covers-from c o n i k, covers-to c o n i k)
+  pub row-4 : covers c o n i ≡ true → n - y ≤ h - 1
+  row-4 k = omega (arith, covers-from c o n i k, covers-to c o n i k, y-at o i)
 
-  pub row-5 : covers c o n i ≡ true → n - y ≤ h - 1
-  row-5 k = omega (arith, covers-from c o n i k, covers-to c o n i k, y-at o i)
-
-  pub row-6 : (b : Bool) → b ≡ bit 128 (oamAt o i 2) → b ≡ true → r ≡ h - 1 - (n - y) → r ≡ rowOf c o n i
+  pub row-5 : (b : Bool) → b ≡ bit 128 (oamAt o i 2) → b ≡ true → r ≡ h - 1 - (n - y) → r ≡ rowOf c o n i
   unfolding rowOf
-  row-6 b d t z = z ∙ rw (sym d ∙ t, w, f, e, y-at o i)
+  row-5 b d t z = z ∙ rw (sym d ∙ t, w, f, e, y-at o i)
 
-pub ruleset row-cases = (row-1, row-2, row-3, row-4, row-5, row-6)
+pub ruleset row-cases = (row-1, row-2, row-3, row-4, row-5)
 
 module _ (c : ℕ) (o : List ℕ) (n i y : ℕ) (e : y ≡ getD o (4 * i) 0) where
   pub covering-1 : n < y → false ≡ covers c o n i

@@ -24,7 +24,7 @@ pub struct Choice {
 
 // 8, or 16 by control bit 5.
 fn height(control: u8) -> u8
-    ensures { λ r. ⌜ (r ≡ heightOf control) × (r ≤ 16) ⌝ }
+    ensures { λ r. ⌜ (r ≡ heightOf control) × (8 ≤ r) × (r ≤ 16) ⌝ }
 {
     if bits::bit(control, 5) { 16 } else { 8 }
 }

@@ -40,7 +40,7 @@ wide-requires-2 : tie.Need-wide-requires-2
 wide-requires-2 c κs = search needs
 
 sub-result : tie.Need-sub-result
-sub-result c = search (row-cases, arith)
+sub-result c = search needs
 
 sub-result-2 : tie.Need-sub-result-2
 sub-result-2 c = search (row-cases, arith)
