@@ -19,8 +19,8 @@ use Rattle.model.proofs.Scroll.{lt-or-ge}
 use Rattle.pixels.specs.Pack.{pack, byteOf}
 use Rattle.pixels.specs.Row.{overTab}
 use Rattle.pixels.proofs.Over.{over-shade}
-use Rattle.sprites.specs.Distance.{distanceOf, distanceAt, isFrom, near}
-use Rattle.sprites.proofs.Places.{height-le, covers-from, covers-to, y-at, length-places, count-covers, eight-shown}
+use Rattle.sprites.specs.Distance.{distanceAt, isFrom, near}
+use Rattle.sprites.proofs.Places.{distance-in, distance-out, from-in, from-under, from-past, height-le, covers-from, covers-to, y-at, length-places, count-covers, eight-shown}
 
 module _ (c : ℕ) (b : Bool) (e : b ≡ bit 32 c) where
   pub height-1 : b ≡ true → 16 ≡ height c
@@ -33,29 +33,17 @@ module _ (c : ℕ) (b : Bool) (e : b ≡ bit 32 c) where
 
 pub ruleset height-cases = (height-1, height-2)
 
-module _ (n y : ℕ) where
-  pub distance-1 : y ≤ n → n - y ≡ distanceOf n y
-  unfolding distanceOf
-  distance-1 h = rw (le-leb y n h)
-
-  pub distance-2 : n < y → 255 ≡ distanceOf n y
-  unfolding distanceOf
-  distance-2 h = rw (lt-leb y n h)
-
-pub ruleset distance-cases = (distance-1, distance-2)
+pub ruleset distance-cases = (distance-in, distance-out)
 
 module _ (d from h : ℕ) where
   pub near-1 : d < from → 0 ≡ cond {A = ℕ} (isFrom from h d) 1 0
-  unfolding isFrom
-  near-1 p = rw (lt-leb from d p)
+  near-1 p = rw (from-under from h d p)
 
   pub near-2 : from ≤ d → d - from < h → 1 ≡ cond {A = ℕ} (isFrom from h d) 1 0
-  unfolding isFrom
-  near-2 p q = rw (le-leb from d p, lt-ltb (d - from) h q)
+  near-2 p q = rw (from-in from h d p q)
 
   pub near-3 : from ≤ d → h ≤ d - from → 0 ≡ cond {A = ℕ} (isFrom from h d) 1 0
-  unfolding isFrom
-  near-3 p q = rw (le-leb from d p, le-ltb (d - from) h q)
+  near-3 p q = rw (from-past from h d p q)
 
 pub ruleset near-cases = (near-1, near-2, near-3)
 

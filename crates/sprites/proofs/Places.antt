@@ -1,7 +1,7 @@
 -- The choice by distances is document 01's choice by Y bytes.
 use Prim.Native.Nat.{ℕ, zero, suc, _+_, _-_, _*_, _/_, _%_, _<_, _≤_}
 use mathlib.Core.Path.{_≡_, refl, ap, sym, _∙_}
-use mathlib.Core.Bool.{Bool, true, false, cond, _&&_}
+use mathlib.Core.Bool.{Bool, true, false, cond, _&&_, false≢true}
 use mathlib.Core.Logic.{⊎-elim}
 use mathlib.Core.List.{List, [], _∷_, _++_}
 use native.Mathlib.Omega.{arith}
@@ -118,10 +118,7 @@ height-le c = by-test (eqb (c / 32 % 2) 1)
 
 and-both : (a b : Bool) → (a && b) ≡ true → (a ≡ true) × (b ≡ true)
 and-both true b e = (refl, e)
-and-both false b e = (e, absurd (differ e))
-  where
-    differ : false ≡ true → ⊥
-    differ e = let z : _≡_ {A = ℕ} 0 1 = cc in omega arith
+and-both false b e = (e, absurd (false≢true e))
 
 pub covers-from : (c : ℕ) (o : List ℕ) (n i : ℕ) → covers c o n i ≡ true → oamAt o i 0 ≤ n
 unfolding covers
@@ -136,23 +133,23 @@ covers-to c o n i e = ltb-true n (oamAt o i 0 + height c) (and-both (leb (oamAt 
 pub y-at : (o : List ℕ) (i : ℕ) → getD o (4 * i) 0 ≡ oamAt o i 0
 y-at o i = let e : 4 * i + 0 ≡ 4 * i = omega arith in rw e
 
-distance-in : (n y : ℕ) → y ≤ n → distanceOf n y ≡ n - y
+pub distance-in : (n y : ℕ) → y ≤ n → n - y ≡ distanceOf n y
 unfolding distanceOf
 distance-in n y h = rw (le-leb y n h)
 
-distance-out : (n y : ℕ) → n < y → distanceOf n y ≡ 255
+pub distance-out : (n y : ℕ) → n < y → 255 ≡ distanceOf n y
 unfolding distanceOf
 distance-out n y h = rw (lt-leb y n h)
 
-from-in : (from h d : ℕ) → from ≤ d → d - from < h → isFrom from h d ≡ true
+pub from-in : (from h d : ℕ) → from ≤ d → d - from < h → isFrom from h d ≡ true
 unfolding isFrom
 from-in from h d a b = rw (le-leb from d a, lt-ltb (d - from) h b)
 
-from-under : (from h d : ℕ) → d < from → isFrom from h d ≡ false
+pub from-under : (from h d : ℕ) → d < from → isFrom from h d ≡ false
 unfolding isFrom
 from-under from h d a = rw (lt-leb from d a)
 
-from-past : (from h d : ℕ) → from ≤ d → h ≤ d - from → isFrom from h d ≡ false
+pub from-past : (from h d : ℕ) → from ≤ d → h ≤ d - from → isFrom from h d ≡ false
 unfolding isFrom
 from-past from h d a b = rw (le-leb from d a, le-ltb (d - from) h b)
 
@@ -160,14 +157,14 @@ from-past from h d a b = rw (le-leb from d a, le-ltb (d - from) h b)
 from-covers : (from n y h : ℕ) → h ≤ 16 → from ≤ 1 → from ≤ n → isFrom from h (distanceOf n y) ≡ (leb y (n - from) && ltb (n - from) (y + h))
 from-covers from n y h k f g =
     ⊎-elim
-    (λ (out : n < y). rw (distance-out n y out, from-past from h 255 (omega arith) (omega arith), lt-leb y (n - from) (omega arith)))
+    (λ (out : n < y). rw (← distance-out n y out, from-past from h 255 (omega arith) (omega arith), lt-leb y (n - from) (omega arith)))
     (λ (here : y ≤ n).
     ⊎-elim
-    (λ (lt : n - y < from). rw (distance-in n y here, from-under from h (n - y) lt, lt-leb y (n - from) (omega arith)))
+    (λ (lt : n - y < from). rw (← distance-in n y here, from-under from h (n - y) lt, lt-leb y (n - from) (omega arith)))
     (λ (ge : from ≤ n - y).
     ⊎-elim
-    (λ (lt : n - y - from < h). rw (distance-in n y here, from-in from h (n - y) ge lt, le-leb y (n - from) (omega arith), lt-ltb (n - from) (y + h) (omega arith)))
-    (λ (le : h ≤ n - y - from). rw (distance-in n y here, from-past from h (n - y) ge le, le-leb y (n - from) (omega arith), le-ltb (n - from) (y + h) (omega arith)))
+    (λ (lt : n - y - from < h). rw (← distance-in n y here, from-in from h (n - y) ge lt, le-leb y (n - from) (omega arith), lt-ltb (n - from) (y + h) (omega arith)))
+    (λ (le : h ≤ n - y - from). rw (← distance-in n y here, from-past from h (n - y) ge le, le-leb y (n - from) (omega arith), le-ltb (n - from) (y + h) (omega arith)))
     (lt-or-ge (n - y - from) h))
     (lt-or-ge (n - y) from))
     (lt-or-ge n y)
@@ -176,8 +173,8 @@ from-covers from n y h k f g =
 from-none : (y h : ℕ) → h ≤ 16 → isFrom 1 h (distanceOf 0 y) ≡ false
 from-none y h k =
     ⊎-elim
-    (λ (out : 0 < y). rw (distance-out 0 y out, from-past 1 h 255 (omega arith) (omega arith)))
-    (λ (here : y ≤ 0). rw (distance-in 0 y here, from-under 1 h (0 - y) (omega arith)))
+    (λ (out : 0 < y). rw (← distance-out 0 y out, from-past 1 h 255 (omega arith) (omega arith)))
+    (λ (here : y ≤ 0). rw (← distance-in 0 y here, from-under 1 h (0 - y) (omega arith)))
     (lt-or-ge 0 y)
 
 -- ---- the lists
