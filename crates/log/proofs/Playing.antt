@@ -224,3 +224,9 @@ module _ (l₀ l : List ℕ) (from n i : ℕ) (y : Keeping l₀ l from n i) (h :
   keep-done p = let e : i ≡ n = omega (arith, y .room) in rw e at (y .moved)
 
 pub ruleset keep-cases = (keep-start, keep-more, keep-done)
+
+pub block-done : (last : Bool) (n w k : ℕ) (l l′ out out′ : List ℕ) (s : State) (x : Played) (m : Memory) → w ≡ wholeBytes last n → IsPlay (take w l) s out x m out′ → k ≡ n - w
+    → l′ ≡ take (n - w) (drop w l) ++ drop (n - w) l
+    → IsPlay (take (wholeBytes last n) l) s out x m out′ × (k ≡ n - wholeBytes last n)
+    × (l′ ≡ take (n - wholeBytes last n) (drop (wholeBytes last n) l) ++ drop (n - wholeBytes last n) l)
+block-done last n w k l l′ out out′ s x m e i f g = rw (← e) (i, f, g)

@@ -13,8 +13,6 @@ ghost use Rattle.model.specs.Unit.{state};
 ghost use Rattle.model.specs.Log.{
     whole as wholeRecord, recordsOf, recordEntry, entryOf, playEntry, hexDigit, decimal, readText, runText, refusedText, entryText
 };
-ghost use Rattle.model.specs.Calls.{onLent, runCall, own, lineOutcome};
-ghost use Rattle.model.specs.Unit.{lineMemory};
 ghost use Rattle.log.specs.Play.{playMemory, playOutcome, Printable, IsStep, IsPlay, wholeBytes};
 use model::Access;
 use model::Entry;
@@ -203,13 +201,6 @@ fn put_text(e: Entry, x: Access, out: &mut [u8], at: usize) -> usize
     }
 }
 
-fn run_all(u: Ppu, n: u16, left: &[u8], right: &[u8], nametables: &[u8], oam: &[u8], line: &mut [u8]) -> Access
-    ensures { λ r. ⌜ lineOutcome r (now (left .entry)) (now (right .entry)) (now (nametables .entry)) (now (oam .entry)) (now (line .exit)) ≡
-        onLent (runCall own 0 n) (state u (lineMemory (now (left .entry)) (now (right .entry)) (now (nametables .entry)) (now (oam .entry)) (now (line .entry)))) ⌝ }
-{
-    registers::refused(2, u)
-}
-
 // An entry's call on a unit and all the memory that is lent.
 pub fn play_entry(
     e: Entry,
@@ -229,7 +220,7 @@ pub fn play_entry(
         Entry::Write(address, byte) => {
             ppu::write(u, address, byte, left, right, nametables, oam, palette)
         }
-        Entry::Run(n) => run_all(u, n, left, right, nametables, oam, line),
+        Entry::Run(n) => ppu::run_all(u, n, left, right, nametables, oam, line),
         Entry::End => registers::done(0, 0, u),
         Entry::Refused(n) => registers::refused(n, u),
     }

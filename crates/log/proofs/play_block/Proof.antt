@@ -1,4 +1,7 @@
+use native.Mathlib.Omega.{arith}
+use lib.ListN.{length-take}
 use borrow.Author.Needs.{needs}
+use Rattle.log.proofs.Playing.{block-done}
 use Rattle.log.proofs.play_block.Statement.{statement}
 use Rattle.log.proofs.play_block.Tie as tie
 use Rattle.log.proofs.play_block.Reads as reads
@@ -17,15 +20,15 @@ slice-reshare-prefix-play c = search needs
 
 -- src/lib.rt:355:9
 slice-aggregate-play : tie.Need-slice-aggregate-play
-slice-aggregate-play c = ?
+slice-aggregate-play c = simp length-take (omega arith)
 
 -- src/lib.rt:353:9
 play-requires : tie.Need-play-requires
-play-requires c κs = ?
+play-requires c κs = simp length-take (omega arith)
 
 -- src/lib.rt:364:9
 keep-requires : tie.Need-keep-requires
-keep-requires c κs = ?
+keep-requires c κs = (c .before .before .before .before .before .before .before .before .before .before .before .before .before .before .before .before .before .before .before .before .before .before .before .before .whole .ensures .1, c .before .before .before .before .before .before .before .before .before .before .before .before .before .before .before .before .before .before .before .before .before .before .before .before .before .before .before .before .before .before .before .before .before .pre .0)
 
 -- src/lib.rt:333:1
 same-length : tie.Need-same-length
@@ -61,7 +64,8 @@ same-length-8 c = search needs
 
 -- src/lib.rt:333:1
 returns : tie.Need-returns
-returns c = ?
+returns c =
+    block-done _ _ _ _ _ _ _ _ _ _ _ (c .before .before .before .before .before .before .before .before .before .before .before .before .before .before .before .before .before .before .before .before .before .before .before .before .before .before .before .whole .ensures .0) (c .before .before .before .before .before .before .before .before .before .before .before .before .before .before .before .before .before .before .play .ensures) (c .before .before .keep .ensures .1) (c .before .before .keep .ensures .0)
 
 pub play-block-spec : {M : Type 1} → statement M
 play-block-spec =
