@@ -186,9 +186,11 @@ pub ruleset play-cases = (play-start, play-ended, play-more, play-done)
 -- A BLOCK: whole records, and all where the log ends
 module _ (last : Bool) (n r : ℕ) where
   pub whole-1 : last ≡ true → r ≡ n → r ≡ wholeBytes last n
+  unfolding wholeBytes
   whole-1 p e = e ∙ rw p
 
   pub whole-2 : last ≡ false → r ≡ n / 4 * 4 → r ≡ wholeBytes last n
+  unfolding wholeBytes
   whole-2 p e = e ∙ rw p
 
 pub ruleset whole-cases = (whole-1, whole-2)

@@ -44,5 +44,5 @@ pub record IsPlay (log : List ℕ) (s : State) (out : List ℕ) (x : Played) (m 
   pub ended : x .ended ≡ playEnds (recordsOf log) s
 
 -- of n bytes those of whole records; all, where the log ends
-abbrev pub wholeBytes : Bool → ℕ → ℕ
+unfoldable pub wholeBytes : Bool → ℕ → ℕ
 wholeBytes last n = cond last n (n / 4 * 4)

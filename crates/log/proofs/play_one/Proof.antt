@@ -13,7 +13,7 @@ play-entry-requires c κs = search needs
 
 -- src/lib.rt:256:9
 put-text-requires : tie.Need-put-text-requires
-put-text-requires c κs = (search printable, search needs)
+put-text-requires c κs = (printable _ _ _ _ _ _ _ _ _ (c .before .before .before .before .before .before .before .before .before .before .before .before .before .play-entry .ensures), search needs)
 
 -- src/lib.rt:239:1
 same-length : tie.Need-same-length

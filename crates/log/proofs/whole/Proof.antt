@@ -7,7 +7,7 @@ use Rattle.log.proofs.whole.Lts as lts
 
 -- src/lib.rt:312:9
 returns : tie.Need-returns
-returns c = search needs
+returns c = (search whole-cases, search needs)
 
 -- src/lib.rt:314:5
 mul-result : tie.Need-mul-result
