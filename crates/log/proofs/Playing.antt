@@ -181,6 +181,13 @@ play-done log out₀ s₀ u m out at w x y h k =
       ended = sym (y .goes ∙ rw d);
     })
 
+-- what is written stands in the output
+pub written-fits : (log : List ℕ) (s : State) (out : List ℕ) (x : Played) (m : Memory) (out′ : List ℕ) → IsPlay log s out x m out′ → x .written ≤ length out′
+written-fits log s out x m out′ i =
+    let e : length out′ ≡ length (playedText (recordsOf log) s) + length (drop (x .written) out) =
+        ap length (i .text) ∙ length-append (playedText (recordsOf log) s) (drop (x .written) out) in
+    omega (arith, e, i .written)
+
 pub ruleset play-cases = (play-start, play-ended, play-more, play-done)
 
 -- A BLOCK: whole records, and all where the log ends
@@ -232,3 +239,9 @@ pub block-done : (last : Bool) (n w k : ℕ) (l l′ out out′ : List ℕ) (s :
     → IsPlay (take (wholeBytes last n) l) s out x m out′ × (k ≡ n - wholeBytes last n)
     × (l′ ≡ take (n - wholeBytes last n) (drop (wholeBytes last n) l) ++ drop (n - wholeBytes last n) l)
 block-done last n w k l l′ out out′ s x m e i f g = rw (← e) (i, f, g)
+
+-- fewer bytes are kept than a record has
+pub kept-short : (last : Bool) (n k : ℕ) → k ≡ n - wholeBytes last n → k < 4
+unfolding wholeBytes
+kept-short true n k e = omega arith
+kept-short false n k e = omega arith
