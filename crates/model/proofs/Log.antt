@@ -35,7 +35,7 @@ known-prints : (x y z : Bool) (a b : ℕ) (o : Outcome) (s : State)
     → let p : Outcome = cond x o (outcome (refusal 5) s) in
     entryText (cond x (cond y (Read a) (cond z (Write a b) (Run a))) (Refused 5)) (p .answer) (p .after .unit .scanline)
     ≡ cond (eqb (p .answer .number) 0) (cond y (readText (p .answer .byte)) (cond z [] (runText (p .after .unit .scanline) (p .answer .nmi))))
-      (refusedText (p .answer .number))
+    (refusedText (p .answer .number))
 unfolding entryText entryDone
 known-prints true true z a b o s = refl
 known-prints true false true a b o s = refl

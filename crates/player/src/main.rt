@@ -108,7 +108,16 @@ fn play_input(
     let mut turns = u64::MAX;
     while turns > 0 {
         let t = turn(
-            n, kept, block, out, left, right, nametables, oam, palette, line,
+            n,
+            kept,
+            block,
+            out,
+            left,
+            right,
+            nametables,
+            oam,
+            palette,
+            line,
         );
         let after = t.unit;
         n = after;

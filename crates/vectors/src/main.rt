@@ -253,7 +253,10 @@ fn rows() {
     say(b"row down 29600: ", lowered(29600));
     say(b"row down 29664: ", lowered(29664));
     say(b"row down 29568: ", lowered(29568));
-    say(b"v 31: cell 1024 is seen from column ", opaque_column(31, 1024) as u64);
+    say(
+        b"v 31: cell 1024 is seen from column ",
+        opaque_column(31, 1024) as u64,
+    );
 }
 
 fn status() {
@@ -286,10 +289,7 @@ fn refusals() {
     say(b"$3FFF: ", number(got(u, 0x3FFF)));
     say(b"255 bytes of OAM: ", number(tried(u, 0x2002, &oam[..255])));
     say(b"257 bytes of OAM: ", number(tried(u, 0x2002, &oam)));
-    let late = Ppu {
-        scanline: 262,
-        ..u
-    };
+    let late = Ppu { scanline: 262, ..u };
     say(b"next line 262: ", number(got(late, 0x2002)));
     say(b"an empty log prints: ", printed() as u64);
 }
