@@ -8,6 +8,7 @@ use std::io::{self, Write};
 const BOARD: u8 = 9;
 
 /// A unit as its record, with all the memory that it is lent.
+#[derive(PartialEq, Eq)]
 pub struct Machine {
     pub unit: [u8; RECORD],
     pub left: [u8; TABLE],
