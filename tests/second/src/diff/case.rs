@@ -3,7 +3,8 @@
 //!     write address=2007 byte=41 unit=0000..09 oam:255 left@0010=80FF
 //!
 //! `NAME:N` lends another length than the right one; `NAME@OFFSET=BYTES` are bytes that are not
-//! zero; all else is zero. Lengths and `most` are decimal, all else is hex.
+//! zero, `BYTE*N` being N of the same; all else is zero. Lengths, `N` and `most` are decimal, all
+//! else is hex.
 
 use crate::world::{Call, Kind, Name, World, LENGTHS, SLACK};
 use std::fmt::Write;
@@ -30,7 +31,20 @@ fn hex(bytes: &[u8]) -> String {
     bytes.iter().map(|b| format!("{b:02X}")).collect()
 }
 
+/// Bytes in hex, many of the same as a product.
+fn brief(bytes: &[u8]) -> String {
+    match bytes {
+        [first, ..] if bytes.len() > 8 && bytes.iter().all(|b| b == first) => {
+            format!("{first:02X}*{}", bytes.len())
+        }
+        _ => hex(bytes),
+    }
+}
+
 fn unhex(text: &str) -> Option<Vec<u8>> {
+    if let Some((byte, count)) = text.split_once('*') {
+        return Some(vec![u8::from_str_radix(byte, 16).ok()?; count.parse().ok()?]);
+    }
     let pairs = (0..text.len()).step_by(2).map(|i| text.get(i..i + 2));
     pairs.map(|pair| u8::from_str_radix(pair?, 16).ok()).collect()
 }
@@ -67,7 +81,7 @@ impl Case {
             while at < bytes.len() {
                 let run = bytes[at..].iter().take_while(|&&b| b != 0).count();
                 if run > 0 {
-                    write!(text, " {}@{at:04X}={}", name.text(), hex(&bytes[at..at + run])).unwrap();
+                    write!(text, " {}@{at:04X}={}", name.text(), brief(&bytes[at..at + run])).unwrap();
                 }
                 at += run + 1;
             }

@@ -92,11 +92,12 @@ fn case_of(seed: u64, number: u64, call: u64) -> Option<Case> {
     }
 }
 
+/// Prints a case that differs, made short, or that both sides agree.
 fn tell(case: Case) {
-    print!("{}", case.report());
     if case.outcome().differs() {
-        println!("the same from less:");
         print!("{}", case.shortened().report());
+    } else {
+        println!("no difference: {:?}", case.call);
     }
 }
 
@@ -111,7 +112,7 @@ fn kept_cases(path: &str) -> Option<u64> {
             continue;
         }
         if case.outcome().differs() {
-            println!("a kept case differs:");
+            println!("DIFFERENCE in a kept case:");
             print!("{}", case.report());
             return None;
         }

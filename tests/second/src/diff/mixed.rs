@@ -92,7 +92,7 @@ fn mislength(random: &mut Random, call: &mut Call) {
 /// Short runs where pixels are drawn, any where they are not.
 fn run_length(trial: &Trial, random: &mut Random) -> u16 {
     let drawn = trial.unit()[1] & 0x18 != 0;
-    match random.below(if drawn { 24 } else { 8 }) {
+    match random.below(if drawn { 80 } else { 8 }) {
         0 => random.below(300) as u16,
         1 if !drawn => random.below(3000) as u16,
         _ => random.below(12) as u16,

@@ -333,7 +333,7 @@ fn sprite_columns(trial: &mut Trial, random: &mut Random, part: usize) -> Result
             unit[1] = unit[1] & !6 | (round & 3) << 1 | 0x18;
             let y = (line as u8 - 1).saturating_sub(random.below(8) as u8);
             let mut oam = [0xFF; 256];
-            let attributes = part as u8 * 32 | random.byte() & 31;
+            let attributes = (part as u8 * 32) | random.byte() & 31;
             oam[..4].copy_from_slice(&[y, random.byte(), attributes, x]);
             let beside = x.wrapping_add(random.below(9) as u8).wrapping_sub(4);
             let slot = random.within(1, 63);

@@ -86,7 +86,7 @@ impl<'a> Trial<'a> {
             let case = Case { call: call.clone(), before: self.library.clone() };
             return Err(Stop::Reached(Box::new(case)));
         }
-        if self.calls % 256 == 0 && (self.late)() {
+        if self.calls.is_multiple_of(256) && (self.late)() {
             return Err(Stop::Late);
         }
         let status = self.unit()[2];
