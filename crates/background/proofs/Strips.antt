@@ -1,22 +1,20 @@
 -- The tiles that a line shows stand in two strips: from the column of v to the end of its page, and in the page beside.
-use Prim.Native.Nat.{ℕ, zero, suc, _+_, _-_, _*_, _/_, _%_, _^_, _<_, _≤_}
-use mathlib.Core.Path.{_≡_, refl, ap, sym, _∙_}
-use mathlib.Core.List.{List, [], _∷_, _++_}
+use Prim.Native.Nat.{ℕ, _+_, _-_, _*_, _/_, _%_, _<_, _≤_}
+use mathlib.Core.Path.{_≡_, ap, sym, _∙_}
+use mathlib.Core.List.{List, _++_}
 use native.Mathlib.Omega.{arith}
-use native.Mathlib.Numerals.{add-one}
-use native.Mathlib.Nat.{add-zero, add-suc, add-assoc, zero-add, mul-comm}
-use lib.ListN.{length, getD, set, drop}
+use native.Mathlib.Nat.{add-assoc, zero-add, mul-comm}
+use lib.ListN.{length, drop}
 use Rattle.model.specs.declared.Wiring.{Wiring}
 use Rattle.model.specs.Unit.{lineLength}
 use Rattle.model.specs.Address.{pageAt, wiringNumber, cellOf}
-use Rattle.model.specs.Scroll.{fineY, nametable, row, column, turn10, rightBy}
+use Rattle.model.specs.Scroll.{fineY, nametable, row, column, turn10}
 use Rattle.model.specs.Background.{tileAt, attributeAddress, attributeAt, lowAt, highAt, tilePixel, backgroundAt}
 use Rattle.model.specs.Line.{tab}
 use Rattle.model.proofs.Scroll.{by-in, by-out}
-use Rattle.model.proofs.Tab.{tab-none, tab-more, tab-done, tab-cong, getD-tab}
+use Rattle.model.proofs.Tab.{tab-none, tab-done, tab-cong, getD-tab}
 use Rattle.pixels.specs.Row.{storeTab}
 use Rattle.pixels.proofs.Store.{tile-more}
-use Rattle.background.specs.declared.Strip.{Strip}
 use Rattle.background.specs.Strips.{rowLength, stripOf, paletteOf, columnPixel, stripPixel, besideOf, shifted}
 
 -- the tile number's address and the attribute byte's: their quarter, and their place in the page
@@ -33,19 +31,24 @@ attribute-place : (q a b : ℕ) → a < 8 → b < 8 → (9152 + q * 1024 + 8 * a
 attribute-place q a b i j = omega arith
 
 -- a tile of the strip of v is the tile that v names
-column-is : (w : Wiring) (n table : List ℕ) (v j : ℕ) → columnPixel table n (stripOf w (nametable v) v) (column v) j ≡ tilePixel w n table v (7 - j)
+tile-is : (w : Wiring) (n table : List ℕ) (v j : ℕ) → columnPixel table n (stripOf w (nametable v) v) (column v) j ≡ tilePixel w n table v (7 - j)
 unfolding columnPixel paletteOf tilePixel tileAt attributeAt attributeAddress lowAt highAt cellOf
-column-is w n table v j =
+tile-is w n table v j =
     let a : row v / 4 < 8 = omega arith in
     let b : column v / 4 < 8 = omega arith in
-    rw (tile-quarter v, tile-place v, attribute-quarter (nametable v) (row v / 4) (column v / 4) (omega arith) a b
-    , attribute-place (nametable v) (row v / 4) (column v / 4) a b, mul-comm (pageAt (wiringNumber w) (nametable v)) 1024)
+    rw (
+      tile-quarter v,
+      tile-place v,
+      attribute-quarter (nametable v) (row v / 4) (column v / 4) (omega arith) a b,
+      attribute-place (nametable v) (row v / 4) (column v / 4) a b,
+      mul-comm (pageAt (wiringNumber w) (nametable v)) 1024,
+    )
     (rw (← add-assoc (1024 * pageAt (wiringNumber w) (nametable v)) (32 * row v) (column v), ← add-assoc (1024 * pageAt (wiringNumber w) (nametable v)) (960 + 8 * (row v / 4)) (column v / 4), ← add-assoc (1024 * pageAt (wiringNumber w) (nametable v)) 960 (8 * (row v / 4))))
 
--- and of the strip of v also the tile that u names, if u has the same row and fine y
-column-of : (w : Wiring) (n table : List ℕ) (u v j q c : ℕ) → nametable u ≡ q → row u ≡ row v → fineY u ≡ fineY v → column u ≡ c
+-- and the tile that u names, if u has the same row and fine y
+tile-of : (w : Wiring) (n table : List ℕ) (u v j q c : ℕ) → nametable u ≡ q → row u ≡ row v → fineY u ≡ fineY v → column u ≡ c
     → columnPixel table n (stripOf w q v) c j ≡ tilePixel w n table u (7 - j)
-column-of w n table u v j q c a b d e = rw (← a, ← b, ← d, ← e) (column-is w n table u j)
+tile-of w n table u v j q c a b d e = rw (← a, ← b, ← d, ← e) (tile-is w n table u j)
 
 -- t columns right in the page: the same nametable, row and fine y
 in-quarter : (v t : ℕ) → column v + t < 32 → nametable (v + t) ≡ nametable v
@@ -57,12 +60,13 @@ in-row v t h = omega arith
 in-fine : (v t : ℕ) → column v + t < 32 → fineY (v + t) ≡ fineY v
 in-fine v t h = omega arith
 
-pub run-in : (w : Wiring) (n table : List ℕ) (v i : ℕ) → column v + i / 8 < 32
+-- the first run
+run-in : (w : Wiring) (n table : List ℕ) (v i : ℕ) → column v + i / 8 < 32
     → stripPixel table n (stripOf w (nametable v) v) (column v) i ≡ backgroundAt w n table v 0 i
 unfolding stripPixel backgroundAt
 run-in w n table v i h =
     rw (zero-add i, by-in v (i / 8) h)
-    (column-of w n table (v + i / 8) v (i % 8) (nametable v) (column v + i / 8) (in-quarter v (i / 8) h) (in-row v (i / 8) h) (in-fine v (i / 8) h) (omega arith))
+    (tile-of w n table (v + i / 8) v (i % 8) (nametable v) (column v + i / 8) (in-quarter v (i / 8) h) (in-row v (i / 8) h) (in-fine v (i / 8) h) (omega arith))
 
 -- in the page beside: v is 2048 a + 1024 b + y, and b is turned
 whole : (v : ℕ) → v ≡ 2048 * (v / 2048) + 1024 * (v / 1024 % 2) + v % 1024
@@ -89,8 +93,8 @@ row-is a d r t h i =
     let e : (2048 * a + 1024 * d + (32 * r + t)) / 32 ≡ 64 * a + 32 * d + r = omega arith in
     rw e (omega arith)
 
-column-is-last : (a d r t : ℕ) → t < 32 → (2048 * a + 1024 * d + (32 * r + t)) % 32 ≡ t
-column-is-last a d r t i = omega arith
+column-is : (a d r t : ℕ) → t < 32 → (2048 * a + 1024 * d + (32 * r + t)) % 32 ≡ t
+column-is a d r t i = omega arith
 
 -- the address of column t in the page beside
 out-is : (v t : ℕ) → turn10 (v - column v) + t ≡ 2048 * (v / 2048) + 1024 * (1 - v / 1024 % 2) + (32 * row v + t)
@@ -112,8 +116,11 @@ beside-is a b h =
 out-quarter : (v t : ℕ) → t < 32 → nametable (turn10 (v - column v) + t) ≡ besideOf (nametable v)
 out-quarter v t i =
     let e : v / 1024 ≡ 2 * (v / 2048) + v / 1024 % 2 = omega arith in
-    rw (out-is v t, quarter-is (v / 2048) (1 - v / 1024 % 2) (32 * row v + t) (room (row v) t (omega arith) i)
-    , beside-is (v / 2048) (v / 1024 % 2) (omega arith)) (ap (λ (q : ℕ). besideOf (q % 4)) (sym e))
+    rw (
+      out-is v t,
+      quarter-is (v / 2048) (1 - v / 1024 % 2) (32 * row v + t) (room (row v) t (omega arith) i),
+      beside-is (v / 2048) (v / 1024 % 2) (omega arith),
+    ) (ap (λ (q : ℕ). besideOf (q % 4)) (sym e))
 
 out-row : (v t : ℕ) → t < 32 → row (turn10 (v - column v) + t) ≡ row v
 out-row v t i = rw (out-is v t) (row-is (v / 2048) (1 - v / 1024 % 2) (row v) t (omega arith) i)
@@ -125,8 +132,9 @@ out-fine v t i =
     (ap (λ (x : ℕ). x % 8) (sym e ∙ ap (λ (x : ℕ). x / 4096) (sym (whole v))))
 
 out-column : (v t : ℕ) → t < 32 → column (turn10 (v - column v) + t) ≡ t
-out-column v t i = rw (out-is v t) (column-is-last (v / 2048) (1 - v / 1024 % 2) (row v) t i)
+out-column v t i = rw (out-is v t) (column-is (v / 2048) (1 - v / 1024 % 2) (row v) t i)
 
+-- the second run, after m tiles
 run-out : (w : Wiring) (n table : List ℕ) (v m i : ℕ) → m ≡ 32 - column v → i / 8 ≤ column v
     → stripPixel table n (stripOf w (besideOf (nametable v)) v) 0 i ≡ backgroundAt w n table v 0 (8 * m + i)
 unfolding stripPixel backgroundAt
@@ -136,7 +144,7 @@ run-out w n table v m i e h =
     let d : column v + (m + i / 8) - 32 ≡ i / 8 = omega arith in
     let t : i / 8 < 32 = omega arith in
     rw (zero-add (8 * m + i), a, b, by-out v (m + i / 8) (omega arith) (omega arith), d, zero-add (i / 8))
-    (column-of w n table (turn10 (v - column v) + i / 8) v (i % 8) (besideOf (nametable v)) (i / 8) (out-quarter v (i / 8) t) (out-row v (i / 8) t) (out-fine v (i / 8) t) (out-column v (i / 8) t))
+    (tile-of w n table (turn10 (v - column v) + i / 8) v (i % 8) (besideOf (nametable v)) (i / 8) (out-quarter v (i / 8) t) (out-row v (i / 8) t) (out-fine v (i / 8) t) (out-column v (i / 8) t))
 
 -- both runs
 pub two-runs : (w : Wiring) (n table l l₁ l₂ : List ℕ) (v m : ℕ) → m ≡ 32 - column v → length l ≡ rowLength

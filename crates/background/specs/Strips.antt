@@ -1,4 +1,4 @@
--- A strip: a row of tiles in one page of nametable RAM, met by a line. What its columns show.
+-- A strip is a row of tiles in one page of nametable RAM: where it lies, and the pixels that its columns show on one line.
 use Prim.Native.Nat.{ℕ, _+_, _-_, _*_, _/_, _%_, _^_, _<_, _≤_}
 use mathlib.Core.List.{List}
 use lib.ListN.{getD}
@@ -8,17 +8,18 @@ use Rattle.model.specs.Scroll.{fineY, row}
 use Rattle.model.specs.Background.{colourOf, numberOf}
 use Rattle.background.specs.declared.Strip.{Strip}
 
--- 33 tiles of eight pixels: a line of 256 begins in one of the first eight
+-- 33 tiles of eight pixels: with fine x a line ends in the 33rd
 abbrev pub rowLength : ℕ
 rowLength = 264
 
 -- v's row of tiles in the page of quarter q
 abbrev pub stripOf : Wiring → ℕ → ℕ → Strip
-stripOf w q v = record
-  { tiles = 1024 * pageAt (wiringNumber w) q + 32 * row v
-  ; attributes = 1024 * pageAt (wiringNumber w) q + 960 + 8 * (row v / 4)
-  ; quadrant = 4 * (row v / 2 % 2)
-  ; fine = fineY v }
+stripOf w q v = record {
+  tiles = 1024 * pageAt (wiringNumber w) q + 32 * row v;
+  attributes = 1024 * pageAt (wiringNumber w) q + 960 + 8 * (row v / 4);
+  quadrant = 4 * (row v / 2 % 2);
+  fine = fineY v;
+}
 
 -- its 32 tile numbers and eight attribute bytes lie in nametable RAM of length m
 pub record Within (s : Strip) (m : ℕ) : Type 0 where
@@ -45,6 +46,6 @@ stripPixel table n s c i = columnPixel table n s (c + i / 8) (i % 8)
 unfoldable pub shifted : List ℕ → ℕ → ℕ → ℕ
 shifted b x p = getD b (x + p) 0
 
--- the quarter beside
+-- the quarter left or right of q: v's nametable with bit 10 turned
 abbrev pub besideOf : ℕ → ℕ
 besideOf q = q + 1 - 2 * (q % 2)

@@ -50,7 +50,12 @@ fn strip_at(board: Board, quarter: usize, v: usize) -> Strip
     let attributes = base + 960 + 8 * (row >> 2);
     let quadrant = 4 * low(row >> 1, 1);
     let fine = low(v >> 12, 3);
-    Strip { tiles, attributes, quadrant, fine }
+    Strip {
+        tiles,
+        attributes,
+        quadrant,
+        fine,
+    }
 }
 
 // The palette of the tile in a column: two bits of its attribute byte.
@@ -76,7 +81,15 @@ fn put_column(table: &[u8], nametables: &[u8], s: Strip, column: usize, row: &mu
 }
 
 // n tiles from a column on, put into the row from its tile at on.
-fn run(table: &[u8], nametables: &[u8], s: Strip, column: usize, n: usize, row: &mut [u8], at: usize)
+fn run(
+    table: &[u8],
+    nametables: &[u8],
+    s: Strip,
+    column: usize,
+    n: usize,
+    row: &mut [u8],
+    at: usize,
+)
     requires { ⌜ (length (now table) ≡ patternLength) × Within s (length (now nametables)) × (column + n ≤ 32)
         × (length (now row) ≡ rowLength) × (at + n ≤ 33) ⌝ }
     ensures { λ _. ⌜ now (row .exit) ≡ storeTab (stripPixel (now (table .entry)) (now (nametables .entry)) s column) (8 * at) (8 * n) (now (row .entry)) ⌝ }
@@ -115,7 +128,15 @@ fn tiles(board: Board, v: usize, table: &[u8], nametables: &[u8], row: &mut [u8]
 }
 
 // The same out of the left table or the right.
-fn tiles_of(board: Board, second: bool, v: usize, left: &[u8], right: &[u8], nametables: &[u8], row: &mut [u8])
+fn tiles_of(
+    board: Board,
+    second: bool,
+    v: usize,
+    left: &[u8],
+    right: &[u8],
+    nametables: &[u8],
+    row: &mut [u8],
+)
     requires { ⌜ (v < 32768) × (length (now left) ≡ patternLength) × (length (now right) ≡ patternLength)
         × (length (now nametables) ≡ nametableLength board) × (length (now row) ≡ rowLength) ⌝ }
     ensures { λ _. ⌜ now (row .exit) ≡

@@ -1,8 +1,9 @@
 -- Demand 3's conditions can be met: two logs that run lines and leave different units, which the reload makes equal.
 use mathlib.Core.Path.{_≡_, refl, ap}
+use mathlib.Core.Bool.{Bool, true, _&&_}
 use mathlib.Core.List.{List, [], _∷_}
-use Prim.Native.Nat.{ℕ}
-use lib.Dec.{lit≤, lit<, eqb}
+use Prim.Native.Nat.{ℕ, zero, suc, _<_}
+use lib.Dec.{T, ltb, ltb→lt, lit≤, lit<}
 use lib.ListN.{getD}
 use borrow.Author.Tests.{eqb-false}
 use Rattle.model.specs.Unit.{State, state, isWellFormed, isDrawing, isRendering, nmiLevel}
@@ -10,9 +11,12 @@ use Rattle.model.specs.Record.{recordOf}
 use Rattle.model.specs.Ports.{wrotePort, wroteControl, wroteMemory, wroteOamBytes, wroteVideo}
 use Rattle.model.specs.Line.{oneLine, blankUnit, idleLine, vblankLine, linesRun, untilVblank, nmiCount, lineCount}
 use Rattle.model.specs.Calls.{own, Call, writeCall, lineCall, runCall, onLent, call, refusalOf, order, done, writeDone, lineDone, runDone}
-use Rattle.model.specs.Reload.{end, endOf, total, totalOf, dataCall, Pair, Alike, reload}
+use Rattle.model.specs.Reload.{end, endOf, totalOf, dataCall, Pair, Alike, reload}
+use Rattle.model.specs.RecordLog.{recordRig, RecordPair, RecordAlike}
+use Rattle.model.proofs.Tests.{and-l, and-r}
 use Rattle.model.proofs.Needed.{zeros, board0, unit0, places, bytes, lengths, quiet}
 use Rattle.model.proofs.Reloaded.{demand3}
+use Rattle.model.proofs.Records.{kept, pair-kept, record-demand3}
 
 -- warmed up, next line 240, all else zero
 start : State
@@ -45,3 +49,20 @@ differ e = eqb-false 128 0 refl (ap (λ (r : List ℕ). getD r 0 0) e)
 -- and the reload makes them equal
 example : Alike (end (reload places bytes) (end one start)) (end (reload places bytes) (end two start))
 example = demand3 start one two pair places places bytes
+
+-- the same on the 16-byte record
+abbrev allBytes : List ℕ → Bool
+allBytes [] = true
+allBytes (x ∷ l) = ltb x 256 && allBytes l
+
+all-small : (l : List ℕ) → T (allBytes l) → (k : ℕ) → getD l k 0 < 256
+all-small [] t k = lit< tt
+all-small (x ∷ l) t zero = ltb→lt x 256 (and-l (ltb x 256) (allBytes l) t)
+all-small (x ∷ l) t (suc k) = all-small l (and-r (ltb x 256) (allBytes l) t) k
+
+record-pair : RecordPair (kept start) one two
+unfolding start unit0 board0 isWellFormed recordOf
+record-pair = pair-kept start one two refl (all-small (recordOf (unit0 0 0)) tt) pair
+
+record-example : RecordAlike (endOf recordRig (reload places bytes) (endOf recordRig one (kept start))) (endOf recordRig (reload places bytes) (endOf recordRig two (kept start)))
+record-example = record-demand3 (kept start) one two record-pair places places bytes

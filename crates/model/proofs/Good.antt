@@ -1,27 +1,28 @@
 -- What every call keeps, of any kind, on any line, refused or not: a well-formed unit stays well formed, the board stays, and so does the length of
 -- each memory.
-use mathlib.Core.Path.{_≡_, refl, sym, ap, _∙_, subst}
+use mathlib.Core.Path.{_≡_, refl, sym, _∙_, subst}
 use mathlib.Core.Bool.{Bool, true, false, cond, _&&_}
 use mathlib.Core.List.{List, [], _∷_}
-use Prim.Native.Nat.{ℕ, zero, suc, _+_, _*_, _/_, _%_, _≤_, _<_}
+use Prim.Native.Nat.{ℕ, zero, suc, _+_, _%_, _<_}
 use native.Mathlib.Omega.{arith}
 use native.Mathlib.Nat.{mod-eq-of-lt}
 use lib.Dec.{T, ltb, eqb, eqb→eq}
 use lib.ListN.{length, set, length-set}
-use borrow.Author.Tests.{ltb-true, ltb-false, eqb-true, eqb-false}
+use borrow.Author.Tests.{ltb-true, eqb-true, eqb-false}
 use Rattle.model.specs.declared.Ppu.{Ppu}
 use Rattle.model.specs.declared.Board.{Board}
 use Rattle.model.specs.declared.Place.{Place}
 use Rattle.model.specs.declared.Place.the-variants.{Pattern, Nametable, Palette}
-use Rattle.model.specs.Unit.{Cells, Memory, VideoLengths, Lengths, withCells, State, state, lineLength, lastLine, isWellFormed, isDrawing, isRendering, dropsOam}
-use Rattle.model.specs.Address.{withOam, stored, placeOf}
-use Rattle.model.specs.Ports.{wroteUnit, wroteMemory, wroteOamBytes, wroteVideo, dmaUnit, dmaOam}
-use Rattle.model.specs.Scroll.{rowDown, copySide}
-use Rattle.model.specs.Line.{marked, statusOf, drawnUnit, drawnLine, picture, idleLine, vblankLine, preRenderLine, blankUnit, oneLine, linesRun, lineCount}
-use Rattle.model.specs.Calls.{Lent, own, other, Call, readCall, writeCall, dmaCall, lineCall, runCall, Outcome, outcome, refusal, longFor, lineLong, lineSizes, inRange, blocked, order, refusalOf, readDone, writeDone, dmaDone, lineDone, runDone, done, gate, onLent, lentOf, lentMemory, ownMemory, call}
-use Rattle.model.proofs.Kept.{cond-both, and-l, and-r, Good, good, well, Nums, Kept, kept-refl, kept-read, kept-write, kept-dma}
+use Rattle.model.specs.Unit.{Cells, Memory, Lengths, State, state, lineLength, fresh, lastLine, isWellFormed, isDrawing, isRendering, dropsOam}
+use Rattle.model.specs.Address.{stored, placeOf}
+use Rattle.model.specs.Ports.{wroteUnit, wroteMemory, wroteOamBytes, wroteVideo, dmaOam}
+use Rattle.model.specs.Scroll.{rowDown}
+use Rattle.model.specs.Line.{marked, statusOf, drawnUnit, drawnLine, idleLine, vblankLine, preRenderLine, blankUnit, oneLine, linesRun, lineCount}
+use Rattle.model.specs.Calls.{Lent, own, other, Call, readCall, writeCall, dmaCall, lineCall, runCall, Outcome, outcome, refusal, longFor, lineLong, inRange, blocked, order, refusalOf, readDone, writeDone, dmaDone, lineDone, runDone, done, gate, onLent, lentOf, lentMemory, ownMemory, call}
+use Rattle.model.proofs.Tests.{cond-both, and-l, and-r}
+use Rattle.model.proofs.Line.{picture-long, line-board, lines-board, run-next, run-reports}
+use Rattle.model.proofs.Kept.{Good, good, well, Nums, Kept, kept-refl, kept-read, kept-write, kept-dma}
 use Rattle.model.proofs.Scroll.{down-lt, side-lt}
-use Rattle.model.proofs.Line.{picture-long, run-next}
 
 -- ACCEPTED CALLS
 pub record Accepted (c : Call) (s : State) : Type 0 where
@@ -81,52 +82,46 @@ marked-64 false s = refl
 pick-lt : (n : ℕ) (b : Bool) (x y : ℕ) → x < n → y < n → cond b x y < n
 pick-lt n b x y p q = cond-both (λ z. z < n) b x y p q
 
-drawn-good : (u : Ppu) (l r n o : List ℕ) → Good u → u .scanline < 240 → Sound u (drawnUnit u l r n o)
+drawn-good : (u : Ppu) (l r n o : List ℕ) → Good u → u .scanline < 240 → Good (drawnUnit u l r n o)
 unfolding drawnUnit statusOf
 drawn-good u l r n o g h =
     record {
-      good = record {
-        status = marked-32 _ _ ∙ marked-64 _ (u .status) ∙ g .status;
-        v = pick-lt 32768 (isRendering u) _ (u .v) (side-lt (u .t) (rowDown (u .v)) (down-lt (u .v) (g .v))) (g .v);
-        t = g .t;
-        x = g .x;
-        scanline = omega arith;
-      };
-      board = refl;
+      status = marked-32 _ _ ∙ marked-64 _ (u .status) ∙ g .status;
+      v = pick-lt 32768 (isRendering u) _ (u .v) (side-lt (u .t) (rowDown (u .v)) (down-lt (u .v) (g .v))) (g .v);
+      t = g .t;
+      x = g .x;
+      scanline = omega arith;
     }
 
-blank-good : (u : Ppu) → Good u → Sound u (blankUnit u)
+blank-good : (u : Ppu) → Good u → Good (blankUnit u)
 unfolding blankUnit vblankLine preRenderLine idleLine
 blank-good u g = go (eqb (u .scanline) 241) (eqb (u .scanline) (lastLine (u .board))) refl refl
   where
-    go : (x y : Bool) → eqb (u .scanline) 241 ≡ x → eqb (u .scanline) (lastLine (u .board)) ≡ y → Sound u (cond x (vblankLine u) (cond y (preRenderLine u) (idleLine u)))
-    go true y e f = let h = eqb-true (u .scanline) 241 e in record { good = omega arith; board = refl }
-    go false true e f = record { good = record { status = refl; v = pick-lt 32768 (isRendering u) (u .t) (u .v) (g .t) (g .v); t = g .t; x = g .x; scanline = omega arith }; board = refl }
-    go false false e f = let h = eqb-false (u .scanline) (lastLine (u .board)) f in record { good = omega arith; board = refl }
+    go : (x y : Bool) → eqb (u .scanline) 241 ≡ x → eqb (u .scanline) (lastLine (u .board)) ≡ y → Good (cond x (vblankLine u) (cond y (preRenderLine u) (idleLine u)))
+    go true y e f = let h = eqb-true (u .scanline) 241 e in omega arith
+    go false true e f = record { status = omega arith; v = pick-lt 32768 (isRendering u) (u .t) (u .v) (g .t) (g .v); t = g .t; x = g .x; scanline = omega arith }
+    go false false e f = let h = eqb-false (u .scanline) (lastLine (u .board)) f in omega arith
 
-pub line-sound : (s : State) → Good (s .unit) → Sound (s .unit) (oneLine s .unit)
+pub line-good : (s : State) → Good (s .unit) → Good (oneLine s .unit)
 unfolding oneLine drawnLine
-line-sound s g = go (ltb (s .unit .scanline) 240) refl
+line-good s g = go (ltb (s .unit .scanline) 240) refl
   where
-    go : (x : Bool) → ltb (s .unit .scanline) 240 ≡ x → Sound (s .unit) (cond x (drawnLine s) (state (blankUnit (s .unit)) (s .memory)) .unit)
+    go : (x : Bool) → ltb (s .unit .scanline) 240 ≡ x → Good (cond x (drawnLine s) (state (blankUnit (s .unit)) (s .memory)) .unit)
     go true e = drawn-good (s .unit) _ _ _ _ g (ltb-true (s .unit .scanline) 240 e)
     go false e = blank-good (s .unit) g
 
-pub lines-sound : (k : ℕ) (s : State) → Good (s .unit) → Sound (s .unit) (linesRun k s .unit)
+pub lines-good : (k : ℕ) (s : State) → Good (s .unit) → Good (linesRun k s .unit)
 unfolding linesRun
-lines-sound zero s g = record { good = g; board = refl }
-lines-sound (suc k) s g =
-    let i = lines-sound k s g in
-    let n = line-sound (linesRun k s) (i .good) in
-    record { good = n .good; board = n .board ∙ i .board }
+lines-good zero s g = g
+lines-good (suc k) s g = line-good (linesRun k s) (lines-good k s g)
 
 pub done-sound : (c : Call) (s : State) → Good (s .unit) → Sound (s .unit) (done c s .after .unit)
 unfolding done readDone writeDone dmaDone lineDone runDone
 done-sound (readCall l a) s g = sound (kept-read (s .unit) g (a % 8) _ (s .memory .cells))
 done-sound (writeCall l a b) s g = sound (kept-write (s .unit) g b (a % 8))
 done-sound (dmaCall l p) s g = sound (kept-dma p (s .unit) g)
-done-sound (lineCall l) s g = line-sound s g
-done-sound (runCall l why n) s g = lines-sound (lineCount why n s) s g
+done-sound (lineCall l) s g = record { good = line-good s g; board = line-board s }
+done-sound (runCall l why n) s g = record { good = lines-good (lineCount why n s) s g; board = lines-board (lineCount why n s) s }
 
 -- no call changes the board
 pub lent-board : (c : Call) (s : State) → onLent c s .after .unit .board ≡ s .unit .board
@@ -152,6 +147,10 @@ call-good c s h = call-formed c s ∙ h
 stays : {u u′ : Ppu} → Nums 0 u u′ → Good u → u′ .scanline ≡ (u .scanline + 0) % (lastLine (u .board) + 1)
 stays {u} n g = let l : u .scanline + 0 < lastLine (u .board) + 1 = omega arith in n .scanline ∙ sym (mod-eq-of-lt l)
 
+-- a fresh unit is well formed
+pub fresh-good : (d : Board) → isWellFormed (fresh d) ≡ true
+fresh-good d = well (fresh d) (omega arith)
+
 -- THE NEXT LINE after any call is as many lines further as it reports, modulo the lines of a frame
 done-lines : (c : Call) (s : State) → Good (s .unit) → done c s .after .unit .scanline ≡ (s .unit .scanline + done c s .answer .lines) % (lastLine (s .unit .board) + 1)
 unfolding done readDone writeDone dmaDone lineDone runDone
@@ -159,7 +158,7 @@ done-lines (readCall l a) s g = stays (kept-read (s .unit) g (a % 8) _ (s .memor
 done-lines (writeCall l a b) s g = stays (kept-write (s .unit) g b (a % 8) .nums) g
 done-lines (dmaCall l p) s g = stays (kept-dma p (s .unit) g .nums) g
 done-lines (lineCall l) s g = unfold linesRun in run-next 1 s (omega arith)
-done-lines (runCall l why n) s g = run-next (lineCount why n s) s (omega arith)
+done-lines (runCall l why n) s g = run-reports l why n s (omega arith)
 
 pub lent-lines : (c : Call) (s : State) → isWellFormed (s .unit) ≡ true → onLent c s .after .unit .scanline ≡ (s .unit .scanline + onLent c s .answer .lines) % (lastLine (s .unit .board) + 1)
 lent-lines c s h =

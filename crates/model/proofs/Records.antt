@@ -2,23 +2,23 @@
 use mathlib.Core.Path.{_≡_, refl, sym, ap, _∙_, subst}
 use mathlib.Core.Bool.{Bool, true, false, cond}
 use mathlib.Core.List.{List, [], _∷_}
-use Prim.Native.Nat.{ℕ, zero, suc, _+_, _≤_, _<_}
+use Prim.Native.Nat.{ℕ, suc, _+_, _≤_, _<_}
 use native.Mathlib.Omega.{arith}
-use lib.Dec.{T, eqb}
-use lib.ListN.{length}
-use borrow.Author.Tests.{eqb-true, eqb-false, eq-eqb, ne-eqb}
+use lib.Dec.{eqb}
+use borrow.Author.Tests.{eqb-true, eqb-false, ne-eqb}
 use Rattle.model.specs.declared.Ppu.{Ppu}
 use Rattle.model.specs.declared.Answer.{Answer}
 use Rattle.model.specs.declared.Access.{Access}
-use Rattle.model.specs.Unit.{Memory, State, state, recordLength, long, isWellFormed}
-use Rattle.model.specs.Record.{at, unitOf, recordOf, recordOk}
+use Rattle.model.specs.Unit.{Memory, Lengths, State, state, recordLength, long, isWellFormed}
+use Rattle.model.specs.Record.{at, unitOf, recordOf}
 use Rattle.model.specs.Line.{linesRun}
-use Rattle.model.specs.Calls.{access, loadCall, Call, Lent, own, other, Outcome, outcome, outcomeOn, refusal, refusedAccess, longFor, order, refusalOf, gate, done, onLent, lentOf, lentMemory, ownMemory, call, packed, savedBytes, Exported, exported, exportOf, onRecord, exportedCall}
-use Rattle.model.specs.Reload.{plain, end, endOf, total, totalOf, Within, dataCall, QuietOf, QuietLog, Quiet, Places, Bytes, reload, PairOf, Pair}
-use Rattle.model.specs.RecordLog.{RecordState, recordState, RecordGiven, recordCall, recordTrace, recordRig, RecordPair, RecordAlike}
+use Rattle.model.specs.Calls.{access, loadCall, Call, Outcome, outcome, outcomeOn, refusal, refusedAccess, longFor, order, refusalOf, done, onLent, lentOf, lentMemory, ownMemory, call, packed, savedBytes, Exported, exported, exportOf, onRecord, exportedCall}
+use Rattle.model.specs.Reload.{end, endOf, total, totalOf, Within, dataCall, QuietLog, Quiet, Places, Bytes, reload, Pair}
+use Rattle.model.specs.RecordLog.{RecordState, recordState, recordCall, recordTrace, recordRig, RecordPair, RecordAlike}
 use Rattle.model.proofs.Record.{unit-record-unit, record-unit-record, record-long, load-save, loaded, unit-well}
-use Rattle.model.proofs.Kept.{cond-both, done-num}
-use Rattle.model.proofs.Good.{Accepted, by-gate, call-good}
+use Rattle.model.proofs.Tests.{cond-both}
+use Rattle.model.proofs.Kept.{done-num}
+use Rattle.model.proofs.Good.{by-gate, call-good}
 use Rattle.model.proofs.Reloaded.{own-same, demand3}
 
 -- AN EXPORTED CALL ON A UNIT'S RECORD IS THE CALL ON THE UNIT, saved
@@ -53,7 +53,7 @@ exported-call c u m h =
     ∙ by-gate (λ (o : Outcome). exportOf (recordOf u) o ≡ saves o) c (state u m) (λ a. saved-done (done c (state u m)) u (done-num c (state u m))) (λ k. saved-refused k u m)
 
 -- LOGS
-abbrev kept : State → RecordState
+abbrev pub kept : State → RecordState
 kept s = recordState (recordOf (s .unit)) (s .memory)
 
 next-kept : (c : Call) (s : State) → isWellFormed (s .unit) ≡ true → recordCall c (kept s) .after ≡ kept (call c s .after)
@@ -85,6 +85,9 @@ end-good (c ∷ cs) s h = end-good cs (call c s .after) (call-good c s h)
 within-kept : (s : State) → Within (recordRig .rests (kept s)) → Within s
 within-kept s = subst (λ (u : Ppu). Within (state u (s .memory))) (unit-record-unit (s .unit))
 
+within-back : (s : State) → Within s → Within (recordRig .rests (kept s))
+within-back s = subst (λ (u : Ppu). Within (state u (s .memory))) (sym (unit-record-unit (s .unit)))
+
 quiet-kept : (shut : Call → Bool) (cs : List Call) (s : State) → isWellFormed (s .unit) ≡ true → QuietLog recordRig shut cs (kept s) → Quiet shut cs s
 quiet-kept shut [] s h q = within-kept s q
 quiet-kept shut (c ∷ cs) s h q = (
@@ -97,6 +100,34 @@ quiet-kept shut (c ∷ cs) s h q = (
   },
   quiet-kept shut cs (call c s .after) (call-good c s h) (subst (QuietLog recordRig shut cs) (next-kept c s h) (q .2)),
 )
+
+-- and back
+quiet-back : (shut : Call → Bool) (cs : List Call) (s : State) → isWellFormed (s .unit) ≡ true → Quiet shut cs s → QuietLog recordRig shut cs (kept s)
+quiet-back shut [] s h q = within-back s q
+quiet-back shut (c ∷ cs) s h q = (
+  within-back s (q .0),
+  record {
+    throughout = λ j l.
+        subst (λ (u : Ppu). Within (linesRun j (state u (lentMemory (lentOf c) (s .memory))))) (sym (unit-record-unit (s .unit)))
+        (q .1 .throughout j (subst (λ (a : Answer). j ≤ a .lines) (reply-kept c s h) l));
+    nodata = λ d e. q .1 .nodata d (sym (ap (λ (a : Answer). a .number) (reply-kept c s h)) ∙ e);
+  },
+  subst (QuietLog recordRig shut cs) (sym (next-kept c s h)) (quiet-back shut cs (call c s .after) (call-good c s h) (q .2)),
+)
+
+-- two logs of demand 3 on a unit are two on its record
+pub pair-kept : (s : State) (la lb : List Call) → isWellFormed (s .unit) ≡ true → ((k : ℕ) → at (recordOf (s .unit)) k < 256) → Pair dataCall s la lb → RecordPair (kept s) la lb
+pair-kept s la lb h small p =
+    record {
+      small = small;
+      pair = record {
+        warm = ap (λ (u : Ppu). u .warm) (unit-record-unit (s .unit)) ∙ p .warm;
+        lengths = subst (λ (u : Ppu). Lengths (u .board) (s .memory)) (sym (unit-record-unit (s .unit))) (p .lengths);
+        quiet-a = quiet-back dataCall la s h (p .quiet-a);
+        quiet-b = quiet-back dataCall lb s h (p .quiet-b);
+        lines-run = total-kept la s h ∙ p .lines-run ∙ sym (total-kept lb s h);
+      };
+    }
 
 -- A RECORD THAT IS REFUSED stays, and so does the memory
 refused-bytes : (x : Access) (l : List ℕ) → (x .answer .number ≡ 0 → ⊥) → savedBytes x l ≡ l
@@ -151,8 +182,8 @@ record-demand3 s la lb p pa pb b = alike (go (eqb (loadCall (s .bytes) .answer .
         let d = demand3 z la lb q pa pb b in
         let side : (cs : List Call) (a : Places) → endOf recordRig (reload a b) (endOf recordRig cs s) ≡ kept (end (reload a b) (end cs z)) =
         λ cs a.
-            ap (λ (x : RecordState). endOf recordRig (reload a b) (endOf recordRig cs x)) (sym k) ∙ ap (endOf recordRig (reload a b)) (end-kept cs z h)
-            ∙ end-kept (reload a b) (end cs z) (end-good cs z h)
+        ap (λ (x : RecordState). endOf recordRig (reload a b) (endOf recordRig cs x)) (sym k) ∙ ap (endOf recordRig (reload a b)) (end-kept cs z h)
+        ∙ end-kept (reload a b) (end cs z) (end-good cs z h)
         in
         side la pa ∙ (λ i. recordState (recordOf (d .units i)) (d .memories i)) ∙ sym (side lb pb)
     go false e =

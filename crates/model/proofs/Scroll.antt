@@ -1,13 +1,12 @@
 -- The steps of v: each stays below 32768; what they do to its parts; n columns right in closed form.
 use Prim.Native.Nat.{ℕ, zero, suc, _+_, _-_, _*_, _/_, _%_, _<_, _≤_}
 use mathlib.Core.Bool.{Bool, true, false, cond}
-use mathlib.Core.Path.{_≡_, refl, ap, sym, _∙_}
+use mathlib.Core.Path.{_≡_, ap, _∙_}
 use mathlib.Core.Logic.{⊎-elim, _⊎_, inl, inr}
 use native.Mathlib.Omega.{arith}
 use native.Mathlib.Decide.{decLt}
-use native.Mathlib.Numerals.{add-one}
 use borrow.Author.Tests.{eq-eqb, ne-eqb, lt-ltb, le-ltb}
-use lib.Dec.{eqb, ltb}
+use lib.Dec.{eqb}
 use Rattle.model.specs.declared.Ppu.{Ppu}
 use Rattle.model.specs.Scroll.{fineY, nametable, row, column, turn10, turn11, rowDown, right, rightBy, copySide}
 use Rattle.model.specs.Ports.{stepped}
@@ -91,6 +90,11 @@ down-lt v h =
     either true x y p q = p
     either false x y p q = q
 
+-- t's bits 10 and 4-0 copied into v: bits 14-11 stay v's
+pub side-top : (t v : ℕ) → copySide t v / 2048 ≡ v / 2048
+unfolding copySide
+side-top t v = omega arith
+
 pub side-lt : (t v : ℕ) → v < 32768 → copySide t v < 32768
 unfolding copySide
 side-lt t v h = omega arith
@@ -173,7 +177,7 @@ module _ (f n r : ℕ) (hn : n < 4) (hr : r < 32) where
   side-copy c f′ n′ r′ c′ h i j k =
       let a : address f n r c / 2048 ≡ f * 2 + n / 2 = omega arith in
       let b : address f′ n′ r′ c′ / 1024 % 2 ≡ n′ % 2 = rw (ten f′ n′ r′ c′ j k) (omega arith) in
-      rw (a, b, row-is f n r c hn hr h, column-is f′ n′ r′ c′ i j k) (omega arith)
+      omega (arith, row-is f n r c hn hr h, column-is f′ n′ r′ c′ i j k)
     where
       ten : (f n r c : ℕ) → r < 32 → c < 32 → address f n r c / 1024 ≡ f * 4 + n
       ten f n r c h k = omega arith

@@ -1,21 +1,21 @@
 -- What each function comes to, from what its calls and tests say: laws over plain variables.
-use Prim.Native.Nat.{ℕ, zero, suc, _+_, _-_, _*_, _/_, _%_, _<_}
-use mathlib.Core.Path.{_≡_, refl, sym, _∙_}
-use mathlib.Core.Bool.{Bool, true, false, cond, _&&_, _||_, and-false}
+use Prim.Native.Nat.{ℕ, _+_, _-_, _*_, _%_, _<_}
+use mathlib.Core.Path.{_≡_, _∙_}
+use mathlib.Core.Bool.{Bool, true, false, cond, _&&_, and-false}
 use mathlib.Core.List.{List, _++_}
 use native.Mathlib.Omega.{arith}
 use borrow.Author.Tests.{eq-eqb, ne-eqb, lt-ltb}
-use lib.Dec.{eqb, ltb}
+use lib.Dec.{ltb}
 use lib.ListN.{length, getD, set, drop}
 use Rattle.model.specs.Unit.{bit}
 use Rattle.model.specs.Line.{tab, merged}
+use Rattle.model.specs.Record.{bitByte}
 use Rattle.model.specs.Background.{colourOf, numberOf}
 use Rattle.pixels.specs.Pack.{byteOf, spreadOf, pixelsBy}
-use Rattle.pixels.specs.Row.{storeTab, overOne, overTab}
+use Rattle.pixels.specs.Row.{storeTab, overOne}
 use Rattle.pixels.proofs.Colours.{tile-bytes}
 use Rattle.pixels.proofs.Store.{store-cong, rest-at}
-use Rattle.pixels.proofs.Over.{over-more}
-use Rattle.model.proofs.Tab.{getD-tab, tab-more}
+use Rattle.model.proofs.Tab.{tab-more}
 
 -- put_tile
 pub tile-stored : (low high palette at n : ℕ) (l : List ℕ) → palette < 4 → n ≡ pixelsBy (spreadOf low + 2 * spreadOf high) palette
@@ -30,13 +30,6 @@ pub over-opaque : (old new : ℕ) → (old ≡ 0 → ⊥) → old ≡ overOne ol
 over-opaque old new h = rw (ne-eqb old 0 h)
 
 pub ruleset over-cases = (over-empty, over-opaque)
-
--- put_over: one byte more
-pub over-byte : (n at j r : ℕ) (t l l′ : List ℕ) → j < 8 → t ≡ tab (byteOf n) 8 → l′ ≡ overTab (byteOf n) at j l → r ≡ overOne (getD l′ (at + j) 0) (getD t j 0)
-    → set l′ (at + j) r ≡ overTab (byteOf n) at (j + 1) l
-over-byte n at j r t l l′ h e d i =
-    let b : getD t j 0 ≡ byteOf n j = rw e (getD-tab (byteOf n) 8 j h) in
-    over-more (byteOf n) at j l l′ r d (i ∙ rw b)
 
 -- merge_one: no sprite; no background; behind; in front
 pub merge-none : (b s : ℕ) → s ≡ 0 → b ≡ merged b s
@@ -65,25 +58,17 @@ merge-more l s l′ p r len lt e d =
     let own : getD l′ p 0 ≡ getD l p 0 = rest-at (λ (k : ℕ). merged (getD l k 0) (getD s k 0)) p l l′ h e in
     tab-more (λ (k : ℕ). merged (getD l k 0) (getD s k 0)) p l l′ r h e (d ∙ rw own)
 
--- hit_one: no background; no sprite; both
-or-none : (o r : Bool) → r ≡ false → o ≡ o || r
-or-none true r e = refl
-or-none false r e = sym e
+-- both: no background; no sprite; both
+pub both-no-background : (b s : ℕ) → b ≡ 0 → 0 ≡ bitByte (ltb 0 b && ltb 0 s)
+both-no-background b s e = rw e
 
-or-some : (o r : Bool) → r ≡ true → true ≡ o || r
-or-some true r e = refl
-or-some false r e = sym e
+pub both-no-sprite : (b s : ℕ) → s ≡ 0 → 0 ≡ bitByte (ltb 0 b && ltb 0 s)
+both-no-sprite b s e = rw (e, and-false (ltb 0 b))
 
-pub hit-no-background : (o : Bool) (b s : ℕ) → b ≡ 0 → o ≡ o || (ltb 0 b && ltb 0 s)
-hit-no-background o b s e = or-none o (ltb 0 b && ltb 0 s) (rw e)
+pub both-opaque : (b s : ℕ) → (b ≡ 0 → ⊥) → (s ≡ 0 → ⊥) → 1 ≡ bitByte (ltb 0 b && ltb 0 s)
+both-opaque b s h k = rw (lt-ltb 0 b (omega arith), lt-ltb 0 s (omega arith))
 
-pub hit-no-sprite : (o : Bool) (b s : ℕ) → s ≡ 0 → o ≡ o || (ltb 0 b && ltb 0 s)
-hit-no-sprite o b s e = or-none o (ltb 0 b && ltb 0 s) (rw e (and-false (ltb 0 b)))
-
-pub hit-both : (o : Bool) (b s : ℕ) → (b ≡ 0 → ⊥) → (s ≡ 0 → ⊥) → true ≡ o || (ltb 0 b && ltb 0 s)
-hit-both o b s h k = or-some o (ltb 0 b && ltb 0 s) (rw (lt-ltb 0 b (omega arith), lt-ltb 0 s (omega arith)))
-
-pub ruleset hit-cases = (hit-no-background, hit-no-sprite, hit-both)
+pub ruleset both-cases = (both-no-background, both-no-sprite, both-opaque)
 
 -- sided: flipped, or not
 pub sided-flipped : (attribute plain flipped : ℕ) (b : Bool) → b ≡ bit 64 attribute → b ≡ true → flipped ≡ cond (bit 64 attribute) flipped plain

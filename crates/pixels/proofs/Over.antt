@@ -47,9 +47,9 @@ over-set l at v = by-test (eqb (getD l at 0) 0)
     by-test true = refl
     by-test false = set-getD l at 0
 
-pub over-more : (g : ℕ → ℕ) (at n : ℕ) (l l′ : List ℕ) (r : ℕ) → l′ ≡ overTab g at n l → r ≡ overOne (getD l′ (at + n) 0) (g n) → set l′ (at + n) r ≡ overTab g at (n + 1) l
+pub over-more : (g : ℕ → ℕ) (at n : ℕ) (l l′ : List ℕ) (v r : ℕ) → l′ ≡ overTab g at n l → v ≡ g n → r ≡ overOne (getD l′ (at + n) 0) v → set l′ (at + n) r ≡ overTab g at (n + 1) l
 unfolding overTab
-over-more g at n l l′ r e d = rw (add-one n, d, ← e) (over-set l′ (at + n) (g n))
+over-more g at n l l′ v r e k d = rw (add-one n, d, k, ← e) (over-set l′ (at + n) (g n))
 
 -- at the place of a store, and at any other
 over-same : (l : List ℕ) (at v : ℕ) → at < length l → getD (overAt l at v) at 0 ≡ overOne (getD l at 0) v
@@ -93,7 +93,7 @@ tab-in g at (suc n) l k h a b =
 abbrev pub placed : (ℕ → ℕ) → ℕ → ℕ → ℕ
 placed g x p = cond (leb x p && ltb p (x + 8)) (g (p - x)) 0
 
--- 0 over anything, and anything over 0
+-- 0 over a pixel leaves it
 pub over-none : (v : ℕ) → overOne v 0 ≡ v
 over-none zero = refl
 over-none (suc v) = rw (ne-eqb (suc v) 0 (λ e. omega arith))

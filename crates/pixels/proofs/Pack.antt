@@ -1,5 +1,5 @@
 -- Packed bytes: sums, products and masks go byte by byte, and each byte comes back.
-use Prim.Native.Nat.{ℕ, zero, suc, _+_, _-_, _*_, _/_, _%_, _^_, _<_, _≤_}
+use Prim.Native.Nat.{ℕ, zero, suc, _+_, _-_, _*_, _%_, _^_, _<_, _≤_}
 use mathlib.Core.Path.{_≡_, refl, ap, sym, _∙_}
 use native.Mathlib.Omega.{arith}
 use native.Mathlib.Nat.{add-mul, mul-comm, mul-assoc, zero-mul, mul-le-mul-right, mod-eq-of-lt, zero-add, suc-add}

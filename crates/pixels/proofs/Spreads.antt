@@ -9,6 +9,7 @@ use lib.Dec.{T, eqb, eqb→eq}
 use lib.Bits.{bitAnd, and-le-r}
 use mir.Val.{Fits}
 use mir.Syntax.{w64}
+use Rattle.model.specs.Record.{bitByte}
 use Rattle.pixels.specs.Pack.{pack, spreadOf, backOf}
 use Rattle.pixels.proofs.Pack.{pack-le}
 
@@ -20,6 +21,10 @@ movesBy f (suc n) = 2 ^ f n + movesBy f n
 pub ones : pack (λ (k : ℕ). 1) 8 ≡ 0x0101010101010101
 unfolding pack
 ones = refl
+
+pub rightmost : pack (λ (k : ℕ). bitByte (eqb k 7)) 8 ≡ 0x0100000000000000
+unfolding pack
+rightmost = refl
 
 -- up by 9k - 7, for k from 1 to 7: from bit 7 - k to bit 8k
 pub spread-moves : movesBy (λ (k : ℕ). 9 * suc k - 7) 7 ≡ 0x0100804020100804

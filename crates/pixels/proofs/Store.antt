@@ -1,6 +1,6 @@
 -- Pixels stored in a row: together, one after another, and as the next part of a row that is filled from the front.
-use Prim.Native.Nat.{ℕ, zero, suc, _+_, _-_, _<_, _≤_}
-use mathlib.Core.Path.{_≡_, refl, ap, sym, _∙_}
+use Prim.Native.Nat.{ℕ, zero, suc, _+_, _<_, _≤_}
+use mathlib.Core.Path.{_≡_, refl, _∙_}
 use mathlib.Core.Bool.{cond}
 use mathlib.Core.List.{List, _++_}
 use mathlib.Core.Logic.{⊎-elim}
@@ -9,17 +9,17 @@ use native.Mathlib.Numerals.{add-one}
 use native.Mathlib.Nat.{add-zero, add-suc, add-assoc}
 use borrow.Author.Tests.{lt-ltb, le-ltb}
 use lib.Dec.{ltb}
-use lib.ListN.{length, getD, set, drop, length-set}
+use lib.ListN.{length, getD, set, drop}
 use lib.Seq.{drop-cons, getD-at, getD-set-same, getD-set-other}
 use Rattle.model.specs.Line.{tab}
 use Rattle.model.proofs.Tab.{length-tab, tab-more}
 use Rattle.model.proofs.Scroll.{lt-or-ge}
 use Rattle.pixels.specs.Row.{storeTab}
 
-pub length-storeTab : (g : ℕ → ℕ) (at n : ℕ) (l : List ℕ) → length (storeTab g at n l) ≡ length l
+-- one store more
+pub store-more : (g : ℕ → ℕ) (at n : ℕ) (l l′ : List ℕ) (v : ℕ) → l′ ≡ storeTab g at n l → v ≡ g n → set l′ (at + n) v ≡ storeTab g at (n + 1) l
 unfolding storeTab
-length-storeTab g at zero l = refl
-length-storeTab g at (suc n) l = length-set (storeTab g at n l) (at + n) (g n) ∙ length-storeTab g at n l
+store-more g at n l l′ v e h = rw (add-one n, e, h)
 
 -- two functions that agree below n
 pub store-cong : (f g : ℕ → ℕ) (at n : ℕ) (l : List ℕ) → ((j : ℕ) → j < n → f j ≡ g j) → storeTab f at n l ≡ storeTab g at n l

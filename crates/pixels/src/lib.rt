@@ -4,11 +4,12 @@
 // sprite_bytes, put_over: the eight pixels of a sprite's row; stored only where nothing opaque stands.
 // clear, merge, any_both: over a whole row: the left columns hidden, sprites over background, sprite 0 hit.
 ghost use mathlib.Core.Path.{_≡_};
-ghost use mathlib.Core.Bool.{cond, _&&_, _||_};
-ghost use Prim.Native.Nat.{ℕ, _+_, _-_, _*_, _/_, _%_, _^_, _<_, _≤_};
-ghost use lib.Dec.{eqb, ltb};
+ghost use mathlib.Core.Bool.{cond, _&&_};
+ghost use Prim.Native.Nat.{ℕ, _+_, _-_, _*_, _/_, _%_, _<_, _≤_};
+ghost use lib.Dec.{ltb};
 ghost use lib.ListN.{length, getD};
 ghost use Rattle.model.specs.Unit.{bit};
+ghost use Rattle.model.specs.Record.{bitByte};
 ghost use Rattle.model.specs.Background.{colourOf, numberOf};
 ghost use Rattle.model.specs.Line.{tab, merged, anyOf};
 ghost use Rattle.pixels.specs.Pack.{pack, byteOf, spreadOf, backOf, pixelsBy};
@@ -21,6 +22,8 @@ const ONES: u64 = 0x0101010101010101;
 const SPREAD: u64 = 0x0100804020100804;
 // Times a byte's low seven bits: bit k comes to the lowest bit of byte k, 7k places up. No two bits meet.
 const SPREAD_BACK: u64 = 0x0000040810204081;
+// 1 in the highest byte: the rightmost pixel.
+const RIGHTMOST: u64 = 0x0100000000000000;
 // 3 in each byte: a colour and 3 more is 4 or more unless the colour is 0.
 const THREES: u64 = 0x0303030303030303;
 // 4 in each byte.
@@ -40,7 +43,7 @@ pub fn spread_back(b: u8) -> u64
 {
     let low = bits::wide64(bits::low8(b, 7));
     let high = bits::wide64(b >> 7);
-    (low * SPREAD_BACK & ONES) + high * 0x0100000000000000
+    (low * SPREAD_BACK & ONES) + high * RIGHTMOST
 }
 
 // The pixel numbers of eight colours: 0 where the colour is 0, else 4q + colour.
@@ -64,14 +67,11 @@ pub fn put8(row: &mut [u8], at: usize, n: u64)
     requires { ⌜ at + 8 ≤ length (now row) ⌝ }
     ensures { λ _. ⌜ now (row .exit) ≡ storeTab (byteOf n) at 8 (now (row .entry)) ⌝ }
 {
-    row[at] = byte(n, 0);
-    row[at + 1] = byte(n, 1);
-    row[at + 2] = byte(n, 2);
-    row[at + 3] = byte(n, 3);
-    row[at + 4] = byte(n, 4);
-    row[at + 5] = byte(n, 5);
-    row[at + 6] = byte(n, 6);
-    row[at + 7] = byte(n, 7);
+    let mut j = 0;
+    while j < 8 {
+        row[at + j] = byte(n, j);
+        j += 1;
+    }
 }
 
 // The eight pixels of a background tile's row, stored from column at on.
@@ -104,22 +104,6 @@ pub fn sprite_bytes(s: Sprite) -> u64
     numbers(sided(s.attribute, plain, flipped), bits::wide64(q))
 }
 
-// The bytes of n, the lowest first.
-fn bytes8(n: u64) -> [u8; 8]
-    ensures { λ r. ⌜ r ≡ tab (byteOf n) 8 ⌝ }
-{
-    [
-        byte(n, 0),
-        byte(n, 1),
-        byte(n, 2),
-        byte(n, 3),
-        byte(n, 4),
-        byte(n, 5),
-        byte(n, 6),
-        byte(n, 7),
-    ]
-}
-
 // The old pixel if it is opaque, else the new one.
 fn over_one(old: u8, new: u8) -> u8
     ensures { λ r. ⌜ r ≡ overOne old new ⌝ }
@@ -132,10 +116,9 @@ pub fn put_over(row: &mut [u8], at: usize, n: u64)
     requires { ⌜ at + 8 ≤ length (now row) ⌝ }
     ensures { λ _. ⌜ now (row .exit) ≡ overTab (byteOf n) at 8 (now (row .entry)) ⌝ }
 {
-    let t = bytes8(n);
     let mut j = 0;
     while j < 8 {
-        row[at + j] = over_one(row[at + j], t[j]);
+        row[at + j] = over_one(row[at + j], byte(n, j));
         j += 1;
     }
 }
@@ -180,14 +163,17 @@ pub fn merge(line: &mut [u8], s: &[u8])
     }
 }
 
-// A hit so far, or in a column where both pixels are opaque.
-fn hit_one(hit: bool, b: u8, s: u8) -> bool
-    ensures { λ r. ⌜ r ≡ hit || (ltb 0 b && ltb 0 s) ⌝ }
+// 1 in a column where both pixels are opaque.
+fn both(b: u8, s: u8) -> u8
+    ensures { λ r. ⌜ (r ≡ bitByte (ltb 0 b && ltb 0 s)) × (r < 2) ⌝ }
 {
     if b == 0 {
-        return hit;
+        return 0;
     }
-    if s == 0 { hit } else { true }
+    if s == 0 {
+        return 0;
+    }
+    1
 }
 
 // Some column below 255 where both rows are opaque.
@@ -195,11 +181,11 @@ pub fn any_both(b: &[u8], s: &[u8]) -> bool
     requires { ⌜ (length (now b) ≡ 256) × (length (now s) ≡ 264) ⌝ }
     ensures { λ r. ⌜ r ≡ anyOf (λ (p : ℕ). ltb 0 (getD (now (b .entry)) p 0) && ltb 0 (getD (now (s .entry)) p 0)) 255 ⌝ }
 {
-    let mut hit = false;
+    let mut n = 0u8;
     let mut p = 0;
     while p < 255 {
-        hit = hit_one(hit, b[p], s[p]);
+        n += both(b[p], s[p]);
         p += 1;
     }
-    hit
+    0 < n
 }

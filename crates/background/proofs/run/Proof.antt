@@ -3,7 +3,7 @@ use mathlib.Core.Path.{_≡_, refl}
 use lib.ListN.{length}
 use Rattle.pixels.specs.Row.{storeTab}
 use Rattle.background.specs.Strips.{rowLength, stripPixel}
-use Rattle.background.proofs.Cases.{run-more, run-done}
+use Rattle.background.proofs.Cases.{run-cases}
 use borrow.Author.Needs.{needs}
 use Rattle.background.proofs.run.Statement.{statement}
 use Rattle.background.proofs.run.Tie as tie
@@ -40,13 +40,13 @@ loop-less : tie.Need-loop-less Inv-loop μ-loop
 loop-less c = search needs
 
 loop-again : tie.Need-loop-again Inv-loop μ-loop
-loop-again c = (search needs, search needs, search run-more)
+loop-again c = (search needs, search needs, search run-cases)
 
 same-length : tie.Need-same-length Inv-loop μ-loop
 same-length c = search needs
 
 returns : tie.Need-returns Inv-loop μ-loop
-returns c = search run-done
+returns c = search run-cases
 
 pub run-spec : {M : Type 1} → statement M
 run-spec =

@@ -1,12 +1,12 @@
-use Prim.Native.Nat.{ℕ, _+_, _-_, _≤_}
-use mathlib.Core.Path.{_≡_, refl}
+use Prim.Native.Nat.{_-_, _≤_}
+use mathlib.Core.Path.{_≡_}
 use mathlib.Core.List.{_++_}
-use native.Mathlib.Omega.{arith}
-use lib.ListN.{length, getD, length-set, drop}
+use lib.ListN.{length, length-set, drop}
+use Rattle.model.specs.Unit.{lineLength}
 use Rattle.model.specs.Line.{tab}
 use Rattle.model.proofs.Tab.{tab-none}
 use Rattle.background.specs.Strips.{shifted}
-use Rattle.background.proofs.Cases.{shift-more, shift-done}
+use Rattle.background.proofs.Cases.{shift-cases}
 use borrow.Author.Needs.{needs}
 use Rattle.background.proofs.shift.Statement.{statement}
 use Rattle.background.proofs.shift.Tie as tie
@@ -14,10 +14,10 @@ use Rattle.background.proofs.shift.Reads as reads
 use Rattle.background.proofs.shift.Lts as lts
 
 abbrev Inv-loop : tie.InvT-loop
-Inv-loop row x line₀ p₀ line p = (p ≤ 256) × (length line ≡ 256) × (line ≡ tab (shifted row x) p ++ drop p line₀)
+Inv-loop row x line₀ p₀ line p = (p ≤ lineLength) × (length line ≡ lineLength) × (line ≡ tab (shifted row x) p ++ drop p line₀)
 
 abbrev μ-loop : tie.MeasureT-loop
-μ-loop row x line₀ p₀ line p = 256 - p
+μ-loop row x line₀ p₀ line p = lineLength - p
 
 loop-holds : tie.Need-loop-holds Inv-loop μ-loop
 loop-holds c = (search needs, search needs, tab-none _ _)
@@ -38,13 +38,13 @@ loop-less : tie.Need-loop-less Inv-loop μ-loop
 loop-less c = search needs
 
 loop-again : tie.Need-loop-again Inv-loop μ-loop
-loop-again c = (search needs, simp length-set (search needs), search shift-more)
+loop-again c = (search needs, simp length-set (search needs), search shift-cases)
 
 same-length : tie.Need-same-length Inv-loop μ-loop
 same-length c = search needs
 
 returns : tie.Need-returns Inv-loop μ-loop
-returns c = search shift-done
+returns c = search shift-cases
 
 pub shift-spec : {M : Type 1} → statement M
 shift-spec =

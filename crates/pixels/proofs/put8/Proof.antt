@@ -1,6 +1,10 @@
-use native.Mathlib.Nat.{add-zero}
-use lib.ListN.{length-set}
+use Prim.Native.Nat.{_≤_, _-_}
+use mathlib.Core.Path.{_≡_, refl}
+use native.Mathlib.Omega.{arith}
+use lib.ListN.{length, length-set}
+use Rattle.pixels.specs.Pack.{byteOf}
 use Rattle.pixels.specs.Row.{storeTab}
+use Rattle.pixels.proofs.Store.{store-more}
 use borrow.Author.Needs.{needs}
 use Rattle.pixels.proofs.put8.Statement.{statement}
 use Rattle.pixels.proofs.put8.Tie as tie
@@ -8,108 +12,55 @@ use Rattle.pixels.proofs.put8.Reads as reads
 use Rattle.pixels.proofs.put8.Lts as lts
 use Rattle.pixels.proofs.byte.Reads as byte-reads
 
-byte-requires : tie.Need-byte-requires
+abbrev Inv-loop : tie.InvT-loop
+Inv-loop row₀ at n j₀ row j = (j ≤ 8) × (length row ≡ length row₀) × (row ≡ storeTab (byteOf n) at j row₀)
+
+abbrev μ-loop : tie.MeasureT-loop
+μ-loop row₀ at n j₀ row j = 8 - j
+
+loop-holds : tie.Need-loop-holds Inv-loop μ-loop
+unfolding storeTab
+loop-holds c = (search needs, refl, refl)
+
+byte-requires : tie.Need-byte-requires Inv-loop μ-loop
 byte-requires c κs = search needs
 
-slice-write-row : tie.Need-slice-write-row
-slice-write-row c = search needs
-
-byte-requires-2 : tie.Need-byte-requires-2
-byte-requires-2 c κs = search needs
-
-add-row : tie.Need-add-row
+add-row : tie.Need-add-row Inv-loop μ-loop
 add-row c = search needs
 
-slice-write-row-2 : tie.Need-slice-write-row-2
-slice-write-row-2 c = simp length-set (search needs)
+slice-write-row : tie.Need-slice-write-row Inv-loop μ-loop
+slice-write-row c = search needs
 
-byte-requires-3 : tie.Need-byte-requires-3
-byte-requires-3 c κs = search needs
+add-j : tie.Need-add-j Inv-loop μ-loop
+add-j c = search needs
 
-add-row-2 : tie.Need-add-row-2
-add-row-2 c = search needs
+loop-less : tie.Need-loop-less Inv-loop μ-loop
+loop-less c = search needs
 
-slice-write-row-3 : tie.Need-slice-write-row-3
-slice-write-row-3 c = simp length-set (search needs)
+loop-again : tie.Need-loop-again Inv-loop μ-loop
+loop-again c = (search needs, simp length-set (search needs), search store-more)
 
-byte-requires-4 : tie.Need-byte-requires-4
-byte-requires-4 c κs = search needs
-
-add-row-3 : tie.Need-add-row-3
-add-row-3 c = search needs
-
-slice-write-row-4 : tie.Need-slice-write-row-4
-slice-write-row-4 c = simp length-set (search needs)
-
-byte-requires-5 : tie.Need-byte-requires-5
-byte-requires-5 c κs = search needs
-
-add-row-4 : tie.Need-add-row-4
-add-row-4 c = search needs
-
-slice-write-row-5 : tie.Need-slice-write-row-5
-slice-write-row-5 c = simp length-set (search needs)
-
-byte-requires-6 : tie.Need-byte-requires-6
-byte-requires-6 c κs = search needs
-
-add-row-5 : tie.Need-add-row-5
-add-row-5 c = search needs
-
-slice-write-row-6 : tie.Need-slice-write-row-6
-slice-write-row-6 c = simp length-set (search needs)
-
-byte-requires-7 : tie.Need-byte-requires-7
-byte-requires-7 c κs = search needs
-
-add-row-6 : tie.Need-add-row-6
-add-row-6 c = search needs
-
-slice-write-row-7 : tie.Need-slice-write-row-7
-slice-write-row-7 c = simp length-set (search needs)
-
-byte-requires-8 : tie.Need-byte-requires-8
-byte-requires-8 c κs = search needs
-
-add-row-7 : tie.Need-add-row-7
-add-row-7 c = search needs
-
-slice-write-row-8 : tie.Need-slice-write-row-8
-slice-write-row-8 c = simp length-set (search needs)
-
-same-length : tie.Need-same-length
+same-length : tie.Need-same-length Inv-loop μ-loop
 same-length c = search needs
 
-returns : tie.Need-returns
-unfolding storeTab
-returns c = rw (add-zero _) cc
+returns : tie.Need-returns Inv-loop μ-loop
+returns c =
+    let l = c .before .loop in
+    let e : l .j ≡ 8 = omega arith in
+    rw e at (l .inv .2)
 
 pub put8-spec : {M : Type 1} → statement M
 put8-spec =
     tie.close
     (tie.spec
+    Inv-loop
+    μ-loop
+    loop-holds
     byte-requires
-    slice-write-row
-    byte-requires-2
     add-row
-    slice-write-row-2
-    byte-requires-3
-    add-row-2
-    slice-write-row-3
-    byte-requires-4
-    add-row-3
-    slice-write-row-4
-    byte-requires-5
-    add-row-4
-    slice-write-row-5
-    byte-requires-6
-    add-row-5
-    slice-write-row-6
-    byte-requires-7
-    add-row-6
-    slice-write-row-7
-    byte-requires-8
-    add-row-7
-    slice-write-row-8
+    slice-write-row
+    add-j
+    loop-less
+    loop-again
     same-length
     returns)

@@ -1,26 +1,23 @@
-use borrow.Author.Needs.{needs}
-use Prim.Native.Nat.{ℕ, _≤_, _-_}
+use Prim.Native.Nat.{_≤_, _-_}
 use mathlib.Core.Path.{_≡_, refl}
 use native.Mathlib.Omega.{arith}
 use lib.ListN.{length, length-set}
 use Rattle.pixels.specs.Pack.{byteOf}
 use Rattle.pixels.specs.Row.{overTab}
-use Rattle.pixels.proofs.Cases.{over-byte}
+use Rattle.pixels.proofs.Over.{over-more}
+use borrow.Author.Needs.{needs}
 use Rattle.pixels.proofs.put_over.Statement.{statement}
 use Rattle.pixels.proofs.put_over.Tie as tie
 use Rattle.pixels.proofs.put_over.Reads as reads
 use Rattle.pixels.proofs.put_over.Lts as lts
-use Rattle.pixels.proofs.bytes8.Reads as bytes8-reads
+use Rattle.pixels.proofs.byte.Reads as byte-reads
 use Rattle.pixels.proofs.over_one.Reads as over-one-reads
 
 abbrev Inv-loop : tie.InvT-loop
-Inv-loop row₀ at n t j₀ row j = (j ≤ 8) × (length row ≡ length row₀) × (row ≡ overTab (byteOf n) at j row₀)
+Inv-loop row₀ at n j₀ row j = (j ≤ 8) × (length row ≡ length row₀) × (row ≡ overTab (byteOf n) at j row₀)
 
 abbrev μ-loop : tie.MeasureT-loop
-μ-loop row₀ at n t j₀ row j = 8 - j
-
-bytes8-requires : tie.Need-bytes8-requires Inv-loop μ-loop
-bytes8-requires c κs = search needs
+μ-loop row₀ at n j₀ row j = 8 - j
 
 loop-holds : tie.Need-loop-holds Inv-loop μ-loop
 unfolding overTab
@@ -32,8 +29,8 @@ add-over-one c = search needs
 slice-read-over-one : tie.Need-slice-read-over-one Inv-loop μ-loop
 slice-read-over-one c = search needs
 
-array-read-over-one : tie.Need-array-read-over-one Inv-loop μ-loop
-array-read-over-one c = search needs
+byte-requires : tie.Need-byte-requires Inv-loop μ-loop
+byte-requires c κs = search needs
 
 over-one-requires : tie.Need-over-one-requires Inv-loop μ-loop
 over-one-requires c κs = search needs
@@ -51,7 +48,7 @@ loop-less : tie.Need-loop-less Inv-loop μ-loop
 loop-less c = search needs
 
 loop-again : tie.Need-loop-again Inv-loop μ-loop
-loop-again c = (search needs, simp length-set (search needs), search over-byte)
+loop-again c = (search needs, simp length-set (search needs), search over-more)
 
 same-length : tie.Need-same-length Inv-loop μ-loop
 same-length c = search needs
@@ -68,11 +65,10 @@ put-over-spec =
     (tie.spec
     Inv-loop
     μ-loop
-    bytes8-requires
     loop-holds
     add-over-one
     slice-read-over-one
-    array-read-over-one
+    byte-requires
     over-one-requires
     add-row
     slice-write-row

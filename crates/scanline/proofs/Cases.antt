@@ -1,0 +1,167 @@
+-- The ways of each function, for `search`.
+use Prim.Native.Nat.{ℕ, zero, suc, _+_, _-_, _*_, _/_, _%_, _<_, _≤_}
+use mathlib.Core.Path.{_≡_, refl, sym, ap, _∙_, subst}
+use mathlib.Core.Bool.{Bool, true, false, cond, _&&_}
+use mathlib.Core.List.{List, []}
+use native.Mathlib.Omega.{arith}
+use native.Mathlib.Numerals.{add-one}
+use lib.Dec.{eqb, ltb}
+use lib.ListN.{length, getD, take}
+use borrow.Author.Tests.{eq-eqb, ne-eqb, lt-ltb, le-ltb}
+use Rattle.model.specs.declared.Ppu.{Ppu}
+use Rattle.model.specs.Unit.{unit, withScanline, State, state, lineMemory, bit, lastLine, isRendering, isWellFormed}
+use Rattle.model.specs.Address.{tableOf}
+use Rattle.model.specs.Scroll.{rowDown, copySide}
+use Rattle.model.specs.Background.{backgroundAt}
+use Rattle.model.specs.Sprites.{overflows}
+use Rattle.model.specs.Line.{tab, anyOf, marked, hitOf, statusOf, picture, drawnUnit, drawnLine, blankUnit, oneLine, linesRun, untilVblank, nmiCount}
+use Rattle.model.proofs.Scroll.{down-lt}
+use Rattle.model.proofs.Kept.{well}
+use Rattle.model.proofs.Good.{good-of, line-good}
+use Rattle.model.proofs.Line.{line-board, until-formula}
+use Rattle.scanline.specs.Shown.{LineLengths, backOf}
+use Rattle.scanline.proofs.Laws.{back-1, back-2, drawn-off}
+
+-- the background as shown
+module _ (u : Ppu) (l r n o b₀ b′ : List ℕ) (long : LineLengths (u .board) l r n o b₀) (on : Bool) (eo : on ≡ bit 8 (u .mask)) where
+  pub shown-1 : (second low : Bool) (k : ℕ) (b : List ℕ) → on ≡ true → second ≡ bit 16 (u .control) → low ≡ bit 2 (u .mask) → k ≡ cond low 0 8
+      → length b ≡ length b₀ → length b′ ≡ length b → b ≡ tab (backgroundAt (u .board .wiring) n (tableOf second l r) (u .v) (u .x)) 256
+      → ((p : ℕ) → getD b′ p 0 ≡ cond (ltb p k) 0 (getD b p 0)) → b′ ≡ tab (backOf u l r n) 256
+  shown-1 second low k b t es el ek h h′ e c =
+      back-1 u l r n k b b′ (sym eo ∙ t) (ek ∙ rw el) (h′ ∙ h ∙ long .line) (e ∙ rw es) c
+
+  pub shown-2 : on ≡ false → length b′ ≡ length b₀ → ((p : ℕ) → getD b′ p 0 ≡ cond (ltb p 256) 0 (getD b₀ p 0)) → b′ ≡ tab (backOf u l r n) 256
+  shown-2 f h c = back-2 u l r n b₀ b′ (sym eo ∙ f) (h ∙ long .line) c
+
+pub ruleset shown-cases = (shown-1, shown-2)
+
+-- the mask's bits, from what the code took
+pub sprites-on : (m : ℕ) (b : Bool) → b ≡ bit 16 m → b ≡ true → bit 16 m ≡ true
+sprites-on m b e t = sym e ∙ t
+
+pub sprites-off : (m : ℕ) (b : Bool) → b ≡ bit 16 m → b ≡ false → bit 16 m ≡ false
+sprites-off m b e f = sym e ∙ f
+
+pub skip-is : (m k : ℕ) (b : Bool) → b ≡ bit 4 m → k ≡ cond b 0 8 → k ≡ cond (bit 4 m) 0 8
+skip-is m k b e d = d ∙ rw e
+
+-- the flags
+module _ (s r a : ℕ) (b : Bool) where
+  pub hit-set : b ≡ true → a ≡ s % 64 → r ≡ s / 128 * 128 + 64 + a → r ≡ marked 64 b s
+  unfolding marked
+  hit-set t e d = d ∙ rw (e, t)
+
+  pub over-set : b ≡ true → a ≡ s % 32 → r ≡ s / 64 * 64 + 32 + a → r ≡ marked 32 b s
+  unfolding marked
+  over-set t e d = d ∙ rw (e, t)
+
+pub unset : (k s : ℕ) (b : Bool) → b ≡ false → s ≡ marked k b s
+unfolding marked
+unset k s b f = rw f
+
+-- a well-formed unit's parts
+module _ (u : Ppu) (h : isWellFormed u ≡ true) where
+  pub v-small : u .v < 32768
+  v-small = good-of u h .v
+
+  pub x-small : u .x < 8
+  x-small = good-of u h .x
+
+  pub scanline-small : u .scanline < 262
+  scanline-small = good-of u h .scanline
+
+  pub down-small : (v : ℕ) → v ≡ rowDown (u .v) → v < 32768
+  down-small v e = rw e (down-lt (u .v) v-small)
+
+pub ruleset formed-parts = (v-small, x-small, scanline-small, down-small)
+
+pub rendering-on : (u : Ppu) (b : Bool) → b ≡ isRendering u → b ≡ true → isRendering u ≡ true
+rendering-on u b e t = sym e ∙ t
+
+-- a drawn line's unit
+module _ (u x : Ppu) (l r n o : List ℕ) (on : Bool) (eo : on ≡ isRendering u) where
+  pub unit-1 : (hit over : Bool) (v v′ s s′ : ℕ) → on ≡ true → hit ≡ anyOf (hitOf u l r n o) 256 → over ≡ overflows (u .control) o (u .scanline)
+      → v ≡ rowDown (u .v) → v′ ≡ copySide (u .t) v → s ≡ marked 64 hit (u .status) → s′ ≡ marked 32 over s
+      → x ≡ unit (u .control) (u .mask) s′ 0 v′ (u .t) (u .x) (u .w) (u .buffer) (u .latch) (u .scanline + 1) (u .warm) (u .board) → x ≡ drawnUnit u l r n o
+  unfolding drawnUnit statusOf
+  unit-1 hit over v v′ s s′ t eh ev e₁ e₂ e₃ e₄ d = d ∙ rw (e₄, e₃, e₂, e₁, eh, ev, ← eo, t)
+
+  pub unit-2 : on ≡ false → x ≡ withScanline u (u .scanline + 1) → x ≡ drawnUnit u l r n o
+  unfolding drawnUnit statusOf marked
+  unit-2 f d = d ∙ rw (← eo, f)
+
+pub off-1 : (u : Ppu) (l r n o b b′ : List ℕ) (on : Bool) → LineLengths (u .board) l r n o b → length b′ ≡ length b → on ≡ isRendering u → on ≡ false
+    → ((p : ℕ) → getD b′ p 0 ≡ cond (ltb p 256) 0 (getD b p 0)) → b′ ≡ picture u l r n o
+off-1 u l r n o b b′ on long h e f c = drawn-off u l r n o b b′ (sym e ∙ f) (h ∙ long .line) c
+
+-- one line
+module _ (u x : Ppu) (l r n o b b′ : List ℕ) where
+  pub line-1 : u .scanline < 240 → x ≡ drawnUnit u l r n o → b′ ≡ picture u l r n o → state x (lineMemory l r n o b′) ≡ oneLine (state u (lineMemory l r n o b))
+  unfolding oneLine drawnLine
+  line-1 h e d = rw (e, d, lt-ltb (u .scanline) 240 h)
+
+  pub line-2 : 240 ≤ u .scanline → x ≡ blankUnit u → b′ ≡ b → state x (lineMemory l r n o b′) ≡ oneLine (state u (lineMemory l r n o b))
+  unfolding oneLine
+  line-2 h e d = rw (e, d, le-ltb (u .scanline) 240 h)
+
+pub ruleset line-cases = (line-1, line-2)
+
+-- a run: after i lines
+pub record Running (l r n o : List ℕ) (most : ℕ) (u₀ : Ppu) (b₀ b : List ℕ) (u : Ppu) (i : ℕ) : Type 0 where
+  pub upto : i ≤ most
+  pub formed : isWellFormed u ≡ true
+  pub lengths : LineLengths (u .board) l r n o b
+  pub so-far : state u (lineMemory l r n o b) ≡ linesRun i (state u₀ (lineMemory l r n o b₀))
+
+module _ (l r n o : List ℕ) (most : ℕ) (u₀ : Ppu) (b₀ : List ℕ) where
+  pub run-start : isWellFormed u₀ ≡ true → LineLengths (u₀ .board) l r n o b₀ → Running l r n o most u₀ b₀ b₀ u₀ 0
+  unfolding linesRun
+  run-start h k = record { upto = omega arith; formed = h; lengths = k; so-far = refl }
+
+  pub run-again : (b : List ℕ) (u : Ppu) (i : ℕ) (b′ : List ℕ) (u′ : Ppu) → Running l r n o most u₀ b₀ b u i → i < most
+      → state u′ (lineMemory l r n o b′) ≡ oneLine (state u (lineMemory l r n o b)) → length b′ ≡ length b → Running l r n o most u₀ b₀ b′ u′ (i + 1)
+  unfolding linesRun
+  run-again b u i b′ u′ inv h e k =
+      let s : State = state u (lineMemory l r n o b) in
+      let d : u′ ≡ oneLine (state u (lineMemory l r n o b)) .unit = ap (λ (s : State). s .unit) e in
+      let board : u′ .board ≡ u .board = ap (λ (w : Ppu). w .board) d ∙ line-board s in
+      record {
+        upto = omega arith;
+        formed = ap isWellFormed d ∙ well (oneLine s .unit) (line-good s (good-of u (inv .formed)));
+        lengths =
+            record {
+              left = inv .lengths .left;
+              right = inv .lengths .right;
+              nametables = inv .lengths .nametables;
+              oam = inv .lengths .oam;
+              line = k ∙ inv .lengths .line;
+            };
+        so-far = e ∙ ap oneLine (inv .so-far) ∙ ap (λ (j : ℕ). linesRun j (state u₀ (lineMemory l r n o b₀))) (sym (add-one i));
+      }
+
+  pub run-done : (b : List ℕ) (u : Ppu) (i : ℕ) → Running l r n o most u₀ b₀ b u i → most ≤ i
+      → state u (lineMemory l r n o b) ≡ linesRun most (state u₀ (lineMemory l r n o b₀))
+  run-done b u i inv h =
+      let e : i ≡ most = omega (arith, inv .upto) in
+      inv .so-far ∙ ap (λ (j : ℕ). linesRun j (state u₀ (lineMemory l r n o b₀))) e
+
+pub ruleset run-cases = (run-start, run-again, run-done)
+
+-- how many lines a run runs
+module _ (u : Ppu) (n : ℕ) (b : Bool) (eb : b ≡ bit 128 (u .control)) where
+  module _ (k : ℕ) (h : u .scanline < 262) (ek : k ≡ (503 - u .scanline) % 262 + 1) where
+    formula : b ≡ true → nmiCount n u ≡ untilVblank (u .board) n (u .scanline)
+    unfolding nmiCount
+    formula t = rw (← eb, t)
+
+    pub count-1 : b ≡ true → n < k → n ≡ nmiCount n u
+    count-1 t lt = sym (formula t ∙ until-formula (u .board) n (u .scanline) (omega arith) ∙ omega arith)
+
+    pub count-2 : b ≡ true → k ≤ n → k ≡ nmiCount n u
+    count-2 t le = sym (formula t ∙ until-formula (u .board) n (u .scanline) (omega arith) ∙ omega arith)
+
+  pub count-3 : b ≡ false → n ≡ nmiCount n u
+  unfolding nmiCount
+  count-3 f = rw (← eb, f)
+
+pub ruleset count-cases = (count-1, count-2, count-3)

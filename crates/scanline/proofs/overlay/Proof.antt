@@ -1,0 +1,63 @@
+use mathlib.Core.Path.{ap, _∙_}
+use Prim.Native.Nat.{ℕ}
+use denote.Ref.{now}
+use Rattle.model.specs.Sprites.{spriteOn}
+use Rattle.scanline.proofs.Laws.{zeros-at, over-1}
+use borrow.Author.Needs.{needs}
+use Rattle.scanline.proofs.overlay.Statement.{statement}
+use Rattle.scanline.proofs.overlay.Tie as tie
+use Rattle.scanline.proofs.overlay.Reads as reads
+use Rattle.scanline.proofs.overlay.Lts as lts
+use Rattle.pixels.proofs.clear.Reads as clear-reads
+use Rattle.pixels.proofs.merge.Reads as merge-reads
+use Rattle.sprites.proofs.sprite_row.Reads as sprite-row-reads
+
+-- src/lib.rt:103:70
+slice-aggregate-sprite-row : tie.Need-slice-aggregate-sprite-row
+slice-aggregate-sprite-row c = search needs
+
+-- src/lib.rt:103:5
+sprite-row-requires : tie.Need-sprite-row-requires
+sprite-row-requires c κs = ((search needs, search needs, search needs, search needs, search needs), (λ p. zeros-at 264 p, search needs, search needs))
+
+-- src/lib.rt:104:19
+slice-aggregate-clear : tie.Need-slice-aggregate-clear
+slice-aggregate-clear c = search needs
+
+-- src/lib.rt:104:5
+clear-requires : tie.Need-clear-requires
+clear-requires c κs = search needs
+
+-- src/lib.rt:105:25
+slice-aggregate-merge : tie.Need-slice-aggregate-merge
+slice-aggregate-merge c = search needs
+
+-- src/lib.rt:105:5
+merge-requires : tie.Need-merge-requires
+merge-requires c κs = search needs
+
+-- src/lib.rt:86:1
+same-length : tie.Need-same-length
+same-length c = search needs
+
+-- src/lib.rt:86:1
+returns : tie.Need-returns
+returns c =
+    let a = c .before .before .before .before .before .before .before .before .before .before .before .before .before .before .before .before .args in
+    let given = c .before .before .before .before .before .before .before .before .before .before .before .before .before .before .before .before .pre .1 in
+    over-1 (a .u) (now (a .left)) (now (a .right)) (now (a .oam)) (a .skip) (c .before .before .before .before .before .before .before .before .before .sprite-row .last .1 .1 .1 .1 .1 .1 .1 .0) (c .before .before .before .before .before .before .clear .last .0) (now (a .line)) _ (given .3) (given .1)
+    (λ p. c .before .before .before .before .before .before .before .before .before .sprite-row .ensures .0 p ∙ ap (λ (n : ℕ). spriteOn (a .u .control) (now (a .left)) (now (a .right)) (now (a .oam)) n p) (given .0))
+    (c .before .before .before .before .before .before .clear .ensures) (c .before .before .merge .ensures)
+
+pub overlay-spec : {M : Type 1} → statement M
+overlay-spec =
+    tie.close
+    (tie.spec
+    slice-aggregate-sprite-row
+    sprite-row-requires
+    slice-aggregate-clear
+    clear-requires
+    slice-aggregate-merge
+    merge-requires
+    same-length
+    returns)

@@ -1,0 +1,35 @@
+use Rattle.scanline.proofs.Cases.{over-set, unset}
+use borrow.Author.Needs.{needs}
+use Rattle.scanline.proofs.with_overflow.Statement.{statement}
+use Rattle.scanline.proofs.with_overflow.Tie as tie
+use Rattle.scanline.proofs.with_overflow.Reads as reads
+use Rattle.scanline.proofs.with_overflow.Lts as lts
+use Rattle.bits.proofs.low8.Reads as low8-reads
+
+-- src/lib.rt:165:16
+mul-result : tie.Need-mul-result
+mul-result c = search needs
+
+-- src/lib.rt:165:16
+add-result : tie.Need-add-result
+add-result c = search needs
+
+-- src/lib.rt:165:42
+low8-requires : tie.Need-low8-requires
+low8-requires c κs = search needs
+
+-- src/lib.rt:165:16
+add-result-2 : tie.Need-add-result-2
+add-result-2 c = search needs
+
+-- src/lib.rt:165:9
+returns : tie.Need-returns
+returns c = search (over-set, unset)
+
+-- src/lib.rt:161:1
+returns-2 : tie.Need-returns-2
+returns-2 c = search (over-set, unset)
+
+pub with-overflow-spec : {M : Type 1} → statement M
+with-overflow-spec =
+    tie.close (tie.spec mul-result add-result low8-requires add-result-2 returns returns-2)

@@ -1,0 +1,286 @@
+// One line, and runs of lines. Inner functions, not public calls: they require the lengths and the well-formed unit
+// that a call has checked.
+// A drawn line: background_shown, zero_hits, overlay, sprites_on, sprites_shown, draw, with_hit, with_overflow, drawn_line.
+// Any line: one_line. Runs: run, until_vblank, nmi_count.
+ghost use mathlib.Core.Path.{_≡_};
+ghost use mathlib.Core.Bool.{cond, true, false, _&&_};
+ghost use mathlib.Core.List.{[]};
+ghost use Prim.Native.Nat.{ℕ, _+_, _-_, _%_, _<_, _≤_};
+ghost use lib.Dec.{eqb, ltb};
+ghost use lib.ListN.{length, getD, take};
+ghost use Rattle.model.specs.Unit.{state, lineMemory, lineLength, bit, isRendering, isWellFormed};
+ghost use Rattle.model.specs.Sprites.{covers, placesOf, overflows};
+ghost use Rattle.model.specs.Line.{
+  tab,
+  anyOf,
+  marked,
+  hitOf,
+  pixelOf,
+  picture,
+  drawnUnit,
+  oneLine,
+  linesRun,
+  nmiCount,
+};
+ghost use Rattle.scanline.specs.Shown.{
+  LineLengths,
+  backOf,
+  overOf,
+  zeroOf,
+  overLine,
+  hitLine,
+};
+use model::Ppu;
+
+// What drawing a line finds beside its pixels: sprite 0 hit, overflow.
+pub struct Flags {
+    pub hit: bool,
+    pub over: bool,
+}
+
+// How many columns at the left edge are hidden, by the mask bit that shows them.
+fn hidden(shown: bool) -> usize
+    ensures { λ r. ⌜ (r ≡ cond shown 0 8) × (r ≤ 8) ⌝ }
+{
+    if shown {
+        return 0;
+    }
+    8
+}
+
+// The background of a line as the mask shows it.
+fn background_shown(
+    u: Ppu,
+    left: &[u8],
+    right: &[u8],
+    nametables: &[u8],
+    oam: &[u8],
+    line: &mut [u8],
+)
+    requires { ⌜ LineLengths (u .board) (now left) (now right) (now nametables) (now oam) (now line) × (u .v < 32768) × (u .x < 8) ⌝ }
+    ensures { λ _. ⌜ now (line .exit) ≡ tab (backOf u (now (left .entry)) (now (right .entry)) (now (nametables .entry))) lineLength ⌝ }
+{
+    if bits::bit(u.mask, 3) {
+        let board = u.board;
+        let second = bits::bit(u.control, 4);
+        background::background(board, second, u.v, u.x, left, right, nametables, line);
+        pixels::clear(line, hidden(bits::bit(u.mask, 1)));
+        return;
+    }
+    pixels::clear(line, 256);
+}
+
+// Sprite 0 and the line's background are opaque in some column below 255, sprites hidden in the first `skip`.
+fn zero_hits(u: Ppu, n: u8, skip: usize, left: &[u8], right: &[u8], oam: &[u8], line: &[u8]) -> bool
+    requires { ⌜ (length (now left) ≡ 4096) × (length (now right) ≡ 4096) × (length (now oam) ≡ 256) × (length (now line) ≡ 256) ⌝ }
+    requires { ⌜ (n ≡ u .scanline) × (skip ≡ cond (bit 4 (u .mask)) 0 8) × (skip ≤ 8) × (bit 16 (u .mask) ≡ true) ⌝ }
+    ensures { λ r. ⌜ r ≡ hitLine u (now (left .entry)) (now (right .entry)) (now (oam .entry)) (now (line .entry)) ⌝ }
+{
+    let mut row = [0u8; 264];
+    sprites::sprite_zero_row(u.control, n, left, right, oam, &mut row);
+    pixels::clear(&mut row, skip);
+    pixels::any_both(line, &row)
+}
+
+// The chosen sprites over the line, hidden in the first `skip` columns.
+fn overlay(
+    u: Ppu,
+    n: u8,
+    count: usize,
+    skip: usize,
+    left: &[u8],
+    right: &[u8],
+    oam: &[u8],
+    list: &[u8],
+    line: &mut [u8],
+)
+    requires { ⌜ (length (now left) ≡ 4096) × (length (now right) ≡ 4096) × (length (now oam) ≡ 256) × (length (now list) ≡ 65) × (length (now line) ≡ 256) ⌝ }
+    requires { ⌜ (n ≡ u .scanline) × (skip ≡ cond (bit 4 (u .mask)) 0 8) × (skip ≤ 8) × (bit 16 (u .mask) ≡ true)
+        × (count ≤ 8) × (take count (now list) ≡ cond (eqb n 0) [] (take 8 (placesOf (covers (u .control) (now oam) (n - 1)) 64))) ⌝ }
+    ensures { λ _. ⌜ now (line .exit) ≡ overLine u (now (left .entry)) (now (right .entry)) (now (oam .entry)) (now (line .entry)) ⌝ }
+{
+    let mut row = [0u8; 264];
+    sprites::sprite_row(u.control, n, count, left, right, oam, list, &mut row);
+    pixels::clear(&mut row, skip);
+    pixels::merge(line, &row);
+}
+
+// The chosen sprites over the line, with mask bit 4; whether sprite 0 hits.
+fn sprites_on(
+    u: Ppu,
+    n: u8,
+    count: usize,
+    left: &[u8],
+    right: &[u8],
+    oam: &[u8],
+    list: &[u8],
+    line: &mut [u8],
+) -> bool
+    requires { ⌜ (length (now left) ≡ 4096) × (length (now right) ≡ 4096) × (length (now oam) ≡ 256) × (length (now list) ≡ 65) × (length (now line) ≡ 256) ⌝ }
+    requires { ⌜ (n ≡ u .scanline) × (bit 16 (u .mask) ≡ true)
+        × (count ≤ 8) × (take count (now list) ≡ cond (eqb n 0) [] (take 8 (placesOf (covers (u .control) (now oam) (n - 1)) 64))) ⌝ }
+    ensures { λ r. ⌜ (now (line .exit) ≡ overLine u (now (left .entry)) (now (right .entry)) (now (oam .entry)) (now (line .entry)))
+        × (r ≡ hitLine u (now (left .entry)) (now (right .entry)) (now (oam .entry)) (now (line .entry))) ⌝ }
+{
+    let skip = hidden(bits::bit(u.mask, 2));
+    let hit = zero_hits(u, n, skip, left, right, oam, line);
+    overlay(u, n, count, skip, left, right, oam, list, line);
+    hit
+}
+
+// The sprites over the line's background, and the flags.
+fn sprites_shown(u: Ppu, left: &[u8], right: &[u8], oam: &[u8], line: &mut [u8]) -> Flags
+    requires { ⌜ (length (now left) ≡ 4096) × (length (now right) ≡ 4096) × (length (now oam) ≡ 256) × (length (now line) ≡ 256) × (u .scanline < 240) ⌝ }
+    ensures { λ r. ⌜ (now (line .exit) ≡ overLine u (now (left .entry)) (now (right .entry)) (now (oam .entry)) (now (line .entry)))
+        × (r .hit ≡ hitLine u (now (left .entry)) (now (right .entry)) (now (oam .entry)) (now (line .entry)))
+        × (r .over ≡ overflows (u .control) (now (oam .entry)) (u .scanline)) ⌝ }
+{
+    let n = u.scanline as u8;
+    let mut list = [0u8; 65];
+    let c = sprites::choose(u.control, n, oam, &mut list);
+    let count = c.count;
+    let over = c.over;
+    if bits::bit(u.mask, 4) {
+        if count == 0 {
+            return Flags { hit: false, over };
+        }
+        let hit = sprites_on(u, n, count, left, right, oam, &list, line);
+        return Flags { hit, over };
+    }
+    Flags { hit: false, over }
+}
+
+// The 256 pixel numbers of a line with mask bit 3 or 4, and the flags.
+fn draw(
+    u: Ppu,
+    left: &[u8],
+    right: &[u8],
+    nametables: &[u8],
+    oam: &[u8],
+    line: &mut [u8],
+) -> Flags
+    requires { ⌜ LineLengths (u .board) (now left) (now right) (now nametables) (now oam) (now line) × (u .v < 32768) × (u .x < 8) × (u .scanline < 240) × (isRendering u ≡ true) ⌝ }
+    ensures { λ r. ⌜ (now (line .exit) ≡ picture u (now (left .entry)) (now (right .entry)) (now (nametables .entry)) (now (oam .entry)))
+        × (r .hit ≡ anyOf (hitOf u (now (left .entry)) (now (right .entry)) (now (nametables .entry)) (now (oam .entry))) lineLength)
+        × (r .over ≡ overflows (u .control) (now (oam .entry)) (u .scanline)) ⌝ }
+{
+    background_shown(u, left, right, nametables, oam, line);
+    sprites_shown(u, left, right, oam, line)
+}
+
+// Status with bit 6 set by a hit.
+fn with_hit(status: u8, hit: bool) -> u8
+    ensures { λ r. ⌜ r ≡ marked 64 hit status ⌝ }
+{
+    if hit {
+        return (status >> 7) * 128 + 64 + bits::low8(status, 6);
+    }
+    status
+}
+
+// Status with bit 5 set by overflow.
+fn with_overflow(status: u8, over: bool) -> u8
+    ensures { λ r. ⌜ r ≡ marked 32 over status ⌝ }
+{
+    if over {
+        return (status >> 6) * 64 + 32 + bits::low8(status, 5);
+    }
+    status
+}
+
+// A line from 0 to 239: its pixels, and the unit after it.
+fn drawn_line(
+    u: Ppu,
+    left: &[u8],
+    right: &[u8],
+    nametables: &[u8],
+    oam: &[u8],
+    line: &mut [u8],
+) -> Ppu
+    requires { ⌜ LineLengths (u .board) (now left) (now right) (now nametables) (now oam) (now line) × (isWellFormed u ≡ true) × (u .scanline < 240) ⌝ }
+    ensures { λ r. ⌜ (r ≡ drawnUnit u (now (left .entry)) (now (right .entry)) (now (nametables .entry)) (now (oam .entry))) × (now (line .exit) ≡ picture u (now (left .entry)) (now (right .entry)) (now (nametables .entry)) (now (oam .entry))) ⌝ }
+{
+    if registers::rendering(u) {
+        let f = draw(u, left, right, nametables, oam, line);
+        let v = registers::copy_side(u.t, registers::row_down(u.v));
+        let status = with_overflow(with_hit(u.status, f.hit), f.over);
+        return Ppu {
+            status: status,
+            oamaddr: 0,
+            v: v,
+            scanline: u.scanline + 1,
+            ..u
+        };
+    }
+    pixels::clear(line, 256);
+    Ppu {
+        scanline: u.scanline + 1,
+        ..u
+    }
+}
+
+// One line.
+pub fn one_line(
+    u: Ppu,
+    left: &[u8],
+    right: &[u8],
+    nametables: &[u8],
+    oam: &[u8],
+    line: &mut [u8],
+) -> Ppu
+    requires { ⌜ LineLengths (u .board) (now left) (now right) (now nametables) (now oam) (now line) × (isWellFormed u ≡ true) ⌝ }
+    ensures { λ r. ⌜ state r (lineMemory (now (left .entry)) (now (right .entry)) (now (nametables .entry)) (now (oam .entry)) (now (line .exit))) ≡ oneLine (state u (lineMemory (now (left .entry)) (now (right .entry)) (now (nametables .entry)) (now (oam .entry)) (now (line .entry)))) ⌝ }
+{
+    if u.scanline < 240 {
+        return drawn_line(u, left, right, nametables, oam, line);
+    }
+    registers::blank_line(u)
+}
+
+// n lines.
+pub fn run(
+    u: Ppu,
+    n: u16,
+    left: &[u8],
+    right: &[u8],
+    nametables: &[u8],
+    oam: &[u8],
+    line: &mut [u8],
+) -> Ppu
+    requires { ⌜ LineLengths (u .board) (now left) (now right) (now nametables) (now oam) (now line) × (isWellFormed u ≡ true) ⌝ }
+    ensures { λ r. ⌜ state r (lineMemory (now (left .entry)) (now (right .entry)) (now (nametables .entry)) (now (oam .entry)) (now (line .exit))) ≡ linesRun n (state u (lineMemory (now (left .entry)) (now (right .entry)) (now (nametables .entry)) (now (oam .entry)) (now (line .entry)))) ⌝ }
+{
+    let mut next = u;
+    let mut i: u16 = 0;
+    while i < n {
+        next = one_line(next, left, right, nametables, oam, line);
+        i += 1;
+    }
+    next
+}
+
+// The lines from next line p until line 241 has run.
+fn until_vblank(p: u16) -> u16
+    requires { ⌜ p < 262 ⌝ }
+    ensures { λ r. ⌜ r ≡ (503 - p) % 262 + 1 ⌝ }
+{
+    if p <= 241 {
+        return 242 - p;
+    }
+    504 - p
+}
+
+// The lines that a run of at most n runs, if control bit 7 stops it after line 241.
+pub fn nmi_count(u: Ppu, n: u16) -> u16
+    requires { ⌜ u .scanline < 262 ⌝ }
+    ensures { λ r. ⌜ r ≡ nmiCount n u ⌝ }
+{
+    if bits::bit(u.control, 7) {
+        let most = until_vblank(u.scanline);
+        if n < most {
+            return n;
+        }
+        return most;
+    }
+    n
+}
