@@ -204,32 +204,42 @@ fn replay(capture: &Capture) -> Result<Tally, String> {
     Ok(replay.tally)
 }
 
+/// Replays a capture and says how it went; whether all was equal.
+fn verdict(folder: &str, name: &str) -> bool {
+    let capture = Capture::load(folder, name);
+    let due = capture.pictures.len() / (WIDTH * HEIGHT) - 1;
+    match replay(&capture) {
+        Ok(tally) => {
+            println!(
+                "  {name}: {} records, {} lines, {} answers ({} apart in status bit 5), {} of {due} pictures",
+                tally.records, tally.lines, tally.reads, tally.bit_5, tally.pictures
+            );
+            tally.reads > 0 && tally.pictures == due
+        }
+        Err(why) => {
+            println!("  {name}: DIFFERENCE: {why}");
+            false
+        }
+    }
+}
+
 fn main() -> ExitCode {
     if !library::LINES {
         println!("the archive has no ppu_line and ppu_run: no capture can be replayed");
         return ExitCode::FAILURE;
     }
     let mut words = std::env::args().skip(1);
-    let folder = words.next().expect("the folder of the captures");
+    let folder = &words.next().expect("the folder of the captures");
     let names: Vec<String> = words.collect();
-    let mut failed = names.is_empty();
-    for name in names {
-        let capture = Capture::load(&folder, &name);
-        let due = capture.pictures.len() / (WIDTH * HEIGHT) - 1;
-        match replay(&capture) {
-            Ok(tally) => {
-                println!(
-                    "{name}: {} records, {} lines, {} answers ({} apart in status bit 5), {} of {due} pictures",
-                    tally.records, tally.lines, tally.reads, tally.bit_5, tally.pictures
-                );
-                failed |= tally.reads == 0 || tally.pictures != due;
-            }
-            Err(why) => {
-                println!("{name}: DIFFERENCE: {why}");
-                failed = true;
-            }
-        }
-    }
-    println!("replay: {}", if failed { "FAILED" } else { "no difference" });
-    ExitCode::from(u8::from(failed))
+    let equal = std::thread::scope(|scope| {
+        let replays: Vec<_> = names.iter().map(|name| scope.spawn(move || verdict(folder, name))).collect();
+        replays.into_iter().map(|r| r.join().unwrap_or(false)).filter(|&equal| equal).count()
+    });
+    let passed = equal == names.len() && equal > 0;
+    println!(
+        "replay: {equal} of {} captures: {}",
+        names.len(),
+        if passed { "no difference" } else { "FAILED" }
+    );
+    ExitCode::from(u8::from(!passed))
 }

@@ -407,5 +407,12 @@ fn runs(trial: &mut Trial, random: &mut Random, part: usize) -> Result<(), Stop>
         trial.set(Name::Unit, &unit);
         trial.call(&Call::run(most))?;
     }
+    if part == 0 {
+        let mut unit = scenery::unit(random);
+        unit[0] &= 0x7F;
+        unit[1] |= 0x18;
+        trial.set(Name::Unit, &unit);
+        trial.call(&Call::run(65535))?;
+    }
     Ok(())
 }
