@@ -93,9 +93,9 @@ module _ (u : Ppu) (l r n : List ℕ) where
   back-1 k b b′ on e h d c =
       tab-ext (backOf u l r n) 256 b′ h
       (λ p lt.
-        c p
-        ∙ ap (λ (x : ℕ). cond (ltb p k) 0 x) (ap (λ (x : List ℕ). getD x p 0) d ∙ getD-tab (backgroundAt (u .board .wiring) n (tableOf (bit 16 (u .control)) l r) (u .v) (u .x)) 256 p lt)
-        ∙ back-cut (u .mask) k p (backgroundOn u l r n p) on e)
+      c p
+      ∙ ap (λ (x : ℕ). cond (ltb p k) 0 x) (ap (λ (x : List ℕ). getD x p 0) d ∙ getD-tab (backgroundAt (u .board .wiring) n (tableOf (bit 16 (u .control)) l r) (u .v) (u .x)) 256 p lt)
+      ∙ back-cut (u .mask) k p (backgroundOn u l r n p) on e)
 
   pub back-2 : (b b′ : List ℕ) → bit 8 (u .mask) ≡ false → length b′ ≡ 256 → ((p : ℕ) → getD b′ p 0 ≡ cond (ltb p 256) 0 (getD b p 0)) → b′ ≡ tab (backOf u l r n) 256
   unfolding backOf backgroundShown
@@ -121,8 +121,8 @@ module _ (u : Ppu) (l r o : List ℕ) where
       d
       ∙ any-cong _ _ 255
       (λ p lt.
-        ap (λ (z : ℕ). ltb 0 (getD b p 0) && ltb 0 z)
-        (c p ∙ ap (λ (z : ℕ). cond (ltb p k) 0 z) (w p) ∙ over-cut (u .mask) k p (spriteZeroOn (u .control) l r o (u .scanline) p) on e))
+      ap (λ (z : ℕ). ltb 0 (getD b p 0) && ltb 0 z)
+      (c p ∙ ap (λ (z : ℕ). cond (ltb p k) 0 z) (w p) ∙ over-cut (u .mask) k p (spriteZeroOn (u .control) l r o (u .scanline) p) on e))
 
   -- sprites not shown, or none on the line
   pub over-2 : (b : List ℕ) → length b ≡ 256 → bit 16 (u .mask) ≡ false → b ≡ overLine u l r o b

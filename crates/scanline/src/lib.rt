@@ -151,14 +151,7 @@ fn sprites_shown(u: Ppu, left: &[u8], right: &[u8], oam: &[u8], line: &mut [u8])
 }
 
 // The 256 pixel numbers of a line with mask bit 3 or 4, and the flags.
-fn draw(
-    u: Ppu,
-    left: &[u8],
-    right: &[u8],
-    nametables: &[u8],
-    oam: &[u8],
-    line: &mut [u8],
-) -> Flags
+fn draw(u: Ppu, left: &[u8], right: &[u8], nametables: &[u8], oam: &[u8], line: &mut [u8]) -> Flags
     requires { ⌜ LineLengths (u .board) (now left) (now right) (now nametables) (now oam) (now line) × (u .v < 32768) × (u .x < 8) × (u .scanline < 240) × (isRendering u ≡ true) ⌝ }
     ensures { λ r. ⌜ (now (line .exit) ≡ picture u (now (left .entry)) (now (right .entry)) (now (nametables .entry)) (now (oam .entry)))
         × (r .hit ≡ anyOf (hitOf u (now (left .entry)) (now (right .entry)) (now (nametables .entry)) (now (oam .entry))) lineLength)

@@ -1,12 +1,12 @@
 -- The ways of each function, for `search`.
-use Prim.Native.Nat.{ℕ, zero, suc, _+_, _-_, _*_, _/_, _%_, _<_, _≤_}
-use mathlib.Core.Path.{_≡_, refl, ap, sym, _∙_}
-use mathlib.Core.Bool.{Bool, true, false, cond, _&&_}
-use mathlib.Core.List.{List, [], _∷_, _++_}
+use Prim.Native.Nat.{ℕ, _+_, _-_, _*_, _/_, _%_, _<_, _≤_}
+use mathlib.Core.Path.{_≡_, refl, sym, _∙_}
+use mathlib.Core.Bool.{Bool, true, false, cond}
+use mathlib.Core.List.{List, []}
 use mathlib.Core.Logic.{⊎-elim}
 use native.Mathlib.Omega.{arith}
-use borrow.Author.Tests.{eq-eqb, ne-eqb, le-leb, lt-leb, lt-ltb, le-ltb}
-use lib.Dec.{eqb, ltb, leb}
+use borrow.Author.Tests.{le-leb, lt-leb, lt-ltb, le-ltb}
+use lib.Dec.{eqb, ltb}
 use lib.ListN.{length, getD, take}
 use lib.Seq.{take-all}
 use Rattle.model.specs.declared.Sprite.{Sprite}
@@ -19,8 +19,8 @@ use Rattle.model.proofs.Scroll.{lt-or-ge}
 use Rattle.pixels.specs.Pack.{pack, byteOf}
 use Rattle.pixels.specs.Row.{overTab}
 use Rattle.pixels.proofs.Over.{over-shade}
-use Rattle.sprites.specs.Distance.{distanceOf, distanceAt, isFrom, near}
-use Rattle.sprites.proofs.Places.{height-le, covers-from, covers-to, y-at, length-places, count-covers, eight-shown}
+use Rattle.sprites.specs.Distance.{distanceAt, isFrom, near}
+use Rattle.sprites.proofs.Places.{distance-in, distance-out, from-in, from-under, from-past, height-le, covers-from, covers-to, y-at, length-places, count-covers, eight-shown}
 
 module _ (c : ℕ) (b : Bool) (e : b ≡ bit 32 c) where
   pub height-1 : b ≡ true → 16 ≡ height c
@@ -33,29 +33,17 @@ module _ (c : ℕ) (b : Bool) (e : b ≡ bit 32 c) where
 
 pub ruleset height-cases = (height-1, height-2)
 
-module _ (n y : ℕ) where
-  pub distance-1 : y ≤ n → n - y ≡ distanceOf n y
-  unfolding distanceOf
-  distance-1 h = rw (le-leb y n h)
-
-  pub distance-2 : n < y → 255 ≡ distanceOf n y
-  unfolding distanceOf
-  distance-2 h = rw (lt-leb y n h)
-
-pub ruleset distance-cases = (distance-1, distance-2)
+pub ruleset distance-cases = (distance-in, distance-out)
 
 module _ (d from h : ℕ) where
   pub near-1 : d < from → 0 ≡ cond {A = ℕ} (isFrom from h d) 1 0
-  unfolding isFrom
-  near-1 p = rw (lt-leb from d p)
+  near-1 p = rw (from-under from h d p)
 
   pub near-2 : from ≤ d → d - from < h → 1 ≡ cond {A = ℕ} (isFrom from h d) 1 0
-  unfolding isFrom
-  near-2 p q = rw (le-leb from d p, lt-ltb (d - from) h q)
+  near-2 p q = rw (from-in from h d p q)
 
   pub near-3 : from ≤ d → h ≤ d - from → 0 ≡ cond {A = ℕ} (isFrom from h d) 1 0
-  unfolding isFrom
-  near-3 p q = rw (le-leb from d p, le-ltb (d - from) h q)
+  near-3 p q = rw (from-past from h d p q)
 
 pub ruleset near-cases = (near-1, near-2, near-3)
 
@@ -96,17 +84,14 @@ module _ (c : ℕ) (o : List ℕ) (n i y r : ℕ) (e : y ≡ getD o (4 * i) 0) w
   row-3 k z = omega (arith, covers-to c o n i k, height-le c, y-at o i)
 
 module _ (c : ℕ) (o : List ℕ) (n i y r g h : ℕ) (e : y ≡ getD o (4 * i) 0) (w : h ≡ g) (f : g ≡ height c) where
-  pub row-4 : covers c o n i ≡ true → 1 ≤ h
-  row-4 k = omega (arith, covers-from c o n i k, covers-to c o n i k)
+  pub row-4 : covers c o n i ≡ true → n - y ≤ h - 1
+  row-4 k = omega (arith, covers-from c o n i k, covers-to c o n i k, y-at o i)
 
-  pub row-5 : covers c o n i ≡ true → n - y ≤ h - 1
-  row-5 k = omega (arith, covers-from c o n i k, covers-to c o n i k, y-at o i)
-
-  pub row-6 : (b : Bool) → b ≡ bit 128 (oamAt o i 2) → b ≡ true → r ≡ h - 1 - (n - y) → r ≡ rowOf c o n i
+  pub row-5 : (b : Bool) → b ≡ bit 128 (oamAt o i 2) → b ≡ true → r ≡ h - 1 - (n - y) → r ≡ rowOf c o n i
   unfolding rowOf
-  row-6 b d t z = z ∙ rw (sym d ∙ t, w, f, e, y-at o i)
+  row-5 b d t z = z ∙ rw (sym d ∙ t, w, f, e, y-at o i)
 
-pub ruleset row-cases = (row-1, row-2, row-3, row-4, row-5, row-6)
+pub ruleset row-cases = (row-1, row-2, row-3, row-4, row-5)
 
 module _ (c : ℕ) (o : List ℕ) (n i y : ℕ) (e : y ≡ getD o (4 * i) 0) where
   pub covering-1 : n < y → false ≡ covers c o n i

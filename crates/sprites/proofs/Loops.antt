@@ -6,7 +6,7 @@ use mathlib.Core.List.{List, _++_}
 use native.Mathlib.Omega.{arith}
 use lib.ListN.{length, getD, set, take, drop, length-set}
 use Rattle.model.specs.Line.{tab}
-use Rattle.model.specs.Sprites.{oamAt, placesOf, countOf}
+use Rattle.model.specs.Sprites.{placesOf, countOf}
 use Rattle.model.proofs.Tab.{tab-none, tab-more, tab-done}
 use Rattle.sprites.specs.Distance.{distanceOf, distanceAt, isFrom, near}
 use Rattle.sprites.proofs.Places.{count-le, count-more, places-more, y-at}

@@ -1,7 +1,7 @@
 -- The choice by distances is document 01's choice by Y bytes.
 use Prim.Native.Nat.{ℕ, zero, suc, _+_, _-_, _*_, _/_, _%_, _<_, _≤_}
 use mathlib.Core.Path.{_≡_, refl, ap, sym, _∙_}
-use mathlib.Core.Bool.{Bool, true, false, cond, _&&_}
+use mathlib.Core.Bool.{Bool, true, false, cond, _&&_, false≢true}
 use mathlib.Core.Logic.{⊎-elim}
 use mathlib.Core.List.{List, [], _∷_, _++_}
 use native.Mathlib.Omega.{arith}
@@ -9,7 +9,7 @@ use native.Mathlib.Numerals.{add-one}
 use borrow.Author.Tests.{ne-eqb, le-leb, lt-leb, lt-ltb, le-ltb, leb-true, ltb-true}
 use lib.Dec.{eqb, ltb, leb}
 use lib.ListN.{length, getD, set, take, length-append, List·getD-append}
-use lib.Seq.{take-set-le, take-suc-set, take-take, take-all, getD-take, getD-at}
+use lib.Seq.{take-set-le, take-suc-set, take-take, take-all, getD-at}
 use Rattle.model.specs.Line.{tab}
 use Rattle.model.specs.Sprites.{oamAt, height, covers, placesOf, countOf}
 use Rattle.model.proofs.Tab.{getD-tab}
@@ -96,14 +96,15 @@ places-at f (suc n) j h = by-test (f n) refl (λ k. places-at f n j k) h
   where
     Ok : List ℕ → Type 0
     Ok l = (getD l j 0 < suc n) × (f (getD l j 0) ≡ true)
+
     by-test : (b : Bool) → f n ≡ b → (j < length (placesOf f n) → (getD (placesOf f n) j 0 < n) × (f (getD (placesOf f n) j 0) ≡ true)) → j < length (cond b (placesOf f n ++ (n ∷ [])) (placesOf f n)) → Ok (cond b (placesOf f n ++ (n ∷ [])) (placesOf f n))
     by-test false e ih k = (omega (arith, ih k .0), ih k .1)
     by-test true e ih k =
         ⊎-elim
         (λ (lt : j < length (placesOf f n)). rw (List·getD-append (placesOf f n) (n ∷ []) 0 j lt) (omega (arith, ih lt .0), ih lt .1))
         (λ (ge : length (placesOf f n) ≤ j).
-          let d : length (placesOf f n) ≡ j = omega (arith, simp length-append at k) in
-          rw (getD-at (placesOf f n) n [] 0 j d) (omega arith, e))
+        let d : length (placesOf f n) ≡ j = omega (arith, simp length-append at k) in
+        rw (getD-at (placesOf f n) n [] 0 j d) (omega arith, e))
         (lt-or-ge j (length (placesOf f n)))
 
 -- ---- what covers says
@@ -117,10 +118,7 @@ height-le c = by-test (eqb (c / 32 % 2) 1)
 
 and-both : (a b : Bool) → (a && b) ≡ true → (a ≡ true) × (b ≡ true)
 and-both true b e = (refl, e)
-and-both false b e = (e, absurd (differ e))
-  where
-    differ : false ≡ true → ⊥
-    differ e = let z : _≡_ {A = ℕ} 0 1 = cc in omega arith
+and-both false b e = (e, absurd (false≢true e))
 
 pub covers-from : (c : ℕ) (o : List ℕ) (n i : ℕ) → covers c o n i ≡ true → oamAt o i 0 ≤ n
 unfolding covers
@@ -135,23 +133,23 @@ covers-to c o n i e = ltb-true n (oamAt o i 0 + height c) (and-both (leb (oamAt 
 pub y-at : (o : List ℕ) (i : ℕ) → getD o (4 * i) 0 ≡ oamAt o i 0
 y-at o i = let e : 4 * i + 0 ≡ 4 * i = omega arith in rw e
 
-distance-in : (n y : ℕ) → y ≤ n → distanceOf n y ≡ n - y
+pub distance-in : (n y : ℕ) → y ≤ n → n - y ≡ distanceOf n y
 unfolding distanceOf
 distance-in n y h = rw (le-leb y n h)
 
-distance-out : (n y : ℕ) → n < y → distanceOf n y ≡ 255
+pub distance-out : (n y : ℕ) → n < y → 255 ≡ distanceOf n y
 unfolding distanceOf
 distance-out n y h = rw (lt-leb y n h)
 
-from-in : (from h d : ℕ) → from ≤ d → d - from < h → isFrom from h d ≡ true
+pub from-in : (from h d : ℕ) → from ≤ d → d - from < h → isFrom from h d ≡ true
 unfolding isFrom
 from-in from h d a b = rw (le-leb from d a, lt-ltb (d - from) h b)
 
-from-under : (from h d : ℕ) → d < from → isFrom from h d ≡ false
+pub from-under : (from h d : ℕ) → d < from → isFrom from h d ≡ false
 unfolding isFrom
 from-under from h d a = rw (lt-leb from d a)
 
-from-past : (from h d : ℕ) → from ≤ d → h ≤ d - from → isFrom from h d ≡ false
+pub from-past : (from h d : ℕ) → from ≤ d → h ≤ d - from → isFrom from h d ≡ false
 unfolding isFrom
 from-past from h d a b = rw (le-leb from d a, le-ltb (d - from) h b)
 
@@ -159,24 +157,24 @@ from-past from h d a b = rw (le-leb from d a, le-ltb (d - from) h b)
 from-covers : (from n y h : ℕ) → h ≤ 16 → from ≤ 1 → from ≤ n → isFrom from h (distanceOf n y) ≡ (leb y (n - from) && ltb (n - from) (y + h))
 from-covers from n y h k f g =
     ⊎-elim
-    (λ (out : n < y). rw (distance-out n y out, from-past from h 255 (omega arith) (omega arith), lt-leb y (n - from) (omega arith)))
+    (λ (out : n < y). rw (← distance-out n y out, from-past from h 255 (omega arith) (omega arith), lt-leb y (n - from) (omega arith)))
     (λ (here : y ≤ n).
-      ⊎-elim
-      (λ (lt : n - y < from). rw (distance-in n y here, from-under from h (n - y) lt, lt-leb y (n - from) (omega arith)))
-      (λ (ge : from ≤ n - y).
-        ⊎-elim
-        (λ (lt : n - y - from < h). rw (distance-in n y here, from-in from h (n - y) ge lt, le-leb y (n - from) (omega arith), lt-ltb (n - from) (y + h) (omega arith)))
-        (λ (le : h ≤ n - y - from). rw (distance-in n y here, from-past from h (n - y) ge le, le-leb y (n - from) (omega arith), le-ltb (n - from) (y + h) (omega arith)))
-        (lt-or-ge (n - y - from) h))
-      (lt-or-ge (n - y) from))
+    ⊎-elim
+    (λ (lt : n - y < from). rw (← distance-in n y here, from-under from h (n - y) lt, lt-leb y (n - from) (omega arith)))
+    (λ (ge : from ≤ n - y).
+    ⊎-elim
+    (λ (lt : n - y - from < h). rw (← distance-in n y here, from-in from h (n - y) ge lt, le-leb y (n - from) (omega arith), lt-ltb (n - from) (y + h) (omega arith)))
+    (λ (le : h ≤ n - y - from). rw (← distance-in n y here, from-past from h (n - y) ge le, le-leb y (n - from) (omega arith), le-ltb (n - from) (y + h) (omega arith)))
+    (lt-or-ge (n - y - from) h))
+    (lt-or-ge (n - y) from))
     (lt-or-ge n y)
 
 -- line 0 is 1 to h below no sprite
 from-none : (y h : ℕ) → h ≤ 16 → isFrom 1 h (distanceOf 0 y) ≡ false
 from-none y h k =
     ⊎-elim
-    (λ (out : 0 < y). rw (distance-out 0 y out, from-past 1 h 255 (omega arith) (omega arith)))
-    (λ (here : y ≤ 0). rw (distance-in 0 y here, from-under 1 h (0 - y) (omega arith)))
+    (λ (out : 0 < y). rw (← distance-out 0 y out, from-past 1 h 255 (omega arith) (omega arith)))
+    (λ (here : y ≤ 0). rw (← distance-in 0 y here, from-under 1 h (0 - y) (omega arith)))
     (lt-or-ge 0 y)
 
 -- ---- the lists
@@ -208,8 +206,8 @@ module _ (c n : ℕ) (o d : List ℕ) (e : d ≡ tab (distanceAt n o) 64) where
       ⊎-elim
       (λ (some : 0 < n). rw (ne-eqb n 0 (λ z. omega arith)) (places-cong (near d 1 (height c)) (covers c o (n - 1)) 64 (λ i lt. near-covers 1 i lt (omega arith) (omega arith))))
       (λ (none : n ≤ 0).
-        let z : n ≡ 0 = omega arith in
-        places-cong (near d 1 (height c)) (λ (i : ℕ). false) 64 (λ i lt. near-none i lt z) ∙ no-places 64 ∙ rw z)
+      let z : n ≡ 0 = omega arith in
+      places-cong (near d 1 (height c)) (λ (i : ℕ). false) 64 (λ i lt. near-none i lt z) ∙ no-places 64 ∙ rw z)
       (lt-or-ge 0 n)
 
   -- s of them are listed: the first eight
@@ -218,8 +216,8 @@ module _ (c n : ℕ) (o d : List ℕ) (e : d ≡ tab (distanceAt n o) 64) where
   eight-shown s k l f m z =
       let few : length (take s l) ≡ s = ap length z ∙ length-places (near d 1 (height c)) 64 ∙ sym f in
       let w : take k l ≡ take 8 (take s l) =
-          ⊎-elim
-          (λ (lt : 8 < s). rw (m, lt-ltb 8 s lt) (sym (take-take 8 s l (omega arith))))
-          (λ (ge : s ≤ 8). rw (m, le-ltb 8 s ge) (sym (take-all 8 (take s l) (omega arith))))
-          (lt-or-ge 8 s) in
+      ⊎-elim
+      (λ (lt : 8 < s). rw (m, lt-ltb 8 s lt) (sym (take-take 8 s l (omega arith))))
+      (λ (ge : s ≤ 8). rw (m, le-ltb 8 s ge) (sym (take-all 8 (take s l) (omega arith))))
+      (lt-or-ge 8 s) in
       w ∙ ap (take 8) (z ∙ places-shown) ∙ take-cond 8 (eqb n 0) (placesOf (covers c o (n - 1)) 64)

@@ -1,12 +1,12 @@
 -- Sprites put one after the other: the first opaque pixel of each column stays.
 use Prim.Native.Nat.{ℕ, zero, suc, _+_, _-_, _<_, _≤_}
 use mathlib.Core.Path.{_≡_, refl, ap, sym, _∙_}
-use mathlib.Core.Bool.{Bool, true, false, cond, _&&_}
+use mathlib.Core.Bool.{Bool, true, false, cond, and-false}
 use mathlib.Core.Logic.{⊎-elim}
-use mathlib.Core.List.{List, [], _∷_, _++_, map}
+use mathlib.Core.List.{List, [], _∷_, _++_, map, map-append}
 use native.Mathlib.Omega.{arith}
 use native.Mathlib.Numerals.{add-one}
-use borrow.Author.Tests.{eq-eqb, ne-eqb, lt-ltb}
+use borrow.Author.Tests.{ne-eqb, lt-ltb}
 use lib.Dec.{eqb, ltb}
 use lib.ListN.{length, getD, take}
 use lib.Seq.{take-suc, take-all, getD-take, length-take-le}
@@ -16,19 +16,15 @@ use Rattle.model.proofs.Scroll.{lt-or-ge}
 use Rattle.pixels.proofs.Over.{over-none}
 use Rattle.sprites.proofs.Places.{places-at, length-places, count-first}
 
+-- the winner stays under one sprite more
 kept : (o v : ℕ) (b : Bool) → eqb o 0 ≡ b → (w r : ℕ) → r ≡ cond (eqb w 0) v w → cond b r o ≡ cond (eqb (cond b w o) 0) v (cond b w o)
 kept o v true e w r h = h
 kept o v false e w r h = rw e
 
--- one sprite more
 winner-more : (l : List Sprite) (s : Sprite) (p : ℕ) → winner (l ++ (s ∷ [])) p ≡ cond (eqb (winner l p) 0) (shade s p) (winner l p)
 unfolding winner
 winner-more [] s p = over-none (shade s p)
 winner-more (t ∷ l) s p = kept (shade t p) (shade s p) (eqb (shade t p) 0) refl (winner l p) (winner (l ++ (s ∷ [])) p) (winner-more l s p)
-
-map-more : (f : ℕ → Sprite) (l : List ℕ) (i : ℕ) → map f (l ++ (i ∷ [])) ≡ map f l ++ (f i ∷ [])
-map-more f [] i = refl
-map-more f (k ∷ l) i = ap (λ (t : List Sprite). f k ∷ t) (map-more f l i)
 
 none-taken : (l : List ℕ) → take 8 l ≡ [] → l ≡ []
 none-taken [] e = refl
@@ -36,10 +32,6 @@ none-taken (k ∷ l) e = absurd (no (ap length e))
   where
     no : suc (length (take 7 l)) ≡ 0 → ⊥
     no e = omega arith
-
-and-false : (b : Bool) → (b && false) ≡ false
-and-false true = refl
-and-false false = refl
 
 -- ---- the list that the choice leaves
 module _ (c n count : ℕ) (o list : List ℕ) (few : count ≤ 8) (long : length list ≡ 65) (e : take count list ≡ cond (eqb n 0) [] (take 8 (placesOf (covers c o (n - 1)) 64))) where
@@ -57,12 +49,12 @@ module _ (c n count : ℕ) (o list : List ℕ) (few : count ≤ 8) (long : lengt
   at j lt =
       let P : List ℕ = placesOf (covers c o (n - 1)) 64 in
       let g : getD list j 0 ≡ getD P j 0 =
-          sym (getD-take count list j 0 lt) ∙ ap (λ (l : List ℕ). getD l j 0) (some j lt) ∙ getD-take 8 P j 0 (omega arith) in
+      sym (getD-take count list j 0 lt) ∙ ap (λ (l : List ℕ). getD l j 0) (some j lt) ∙ getD-take 8 P j 0 (omega arith) in
       let w : j < length P =
-          ⊎-elim
-          (λ (h : j < length P). h)
-          (λ (h : length P ≤ j). absurd (omega (arith, full, ap length (some j lt ∙ take-all 8 P (omega arith)))))
-          (lt-or-ge j (length P)) in
+      ⊎-elim
+      (λ (h : j < length P). h)
+      (λ (h : length P ≤ j). absurd (omega (arith, full, ap length (some j lt ∙ take-all 8 P (omega arith)))))
+      (lt-or-ge j (length P)) in
       rw g (places-at (covers c o (n - 1)) 64 j w)
 
   pub listed-small : (j k : ℕ) → j < count → k ≡ getD list j 0 → k < 64
@@ -91,10 +83,10 @@ module _ (c n count : ℕ) (o list : List ℕ) (few : count ≤ 8) (long : lengt
   none-zero z left right p =
       ⊎-elim
       (λ (some : 0 < n).
-        let P : List ℕ = placesOf (covers c o (n - 1)) 64 in
-        let w : take 8 P ≡ [] = rw (z, ne-eqb n 0 (λ d. omega arith)) at (sym e) in
-        let k : countOf (covers c o (n - 1)) 64 ≡ 0 = sym (length-places (covers c o (n - 1)) 64) ∙ ap length (none-taken P w) in
-        rw (count-first (covers c o (n - 1)) 63 k, and-false (ltb 0 n)))
+      let P : List ℕ = placesOf (covers c o (n - 1)) 64 in
+      let w : take 8 P ≡ [] = rw (z, ne-eqb n 0 (λ d. omega arith)) at (sym e) in
+      let k : countOf (covers c o (n - 1)) 64 ≡ 0 = sym (length-places (covers c o (n - 1)) 64) ∙ ap length (none-taken P w) in
+      rw (count-first (covers c o (n - 1)) 63 k, and-false (ltb 0 n)))
       (λ (none : n ≤ 0). let d : n ≡ 0 = omega arith in rw d)
       (lt-or-ge 0 n)
 
@@ -116,7 +108,7 @@ module _ (c m count : ℕ) (left right o list row : List ℕ) (i : ℕ) (w : Won
       record {
         room = omega arith;
         long = h;
-        won = λ p. rw (e p, w .won p, f, t, map-more (fetched c left right o m) (take i list) k) (sym (winner-more (map (fetched c left right o m) (take i list)) (fetched c left right o m k) p));
+        won = λ p. rw (e p, w .won p, f, t, map-append (fetched c left right o m) (take i list) (k ∷ [])) (sym (winner-more (map (fetched c left right o m) (take i list)) (fetched c left right o m k) p));
       }
 
   pub won-done : (n : ℕ) → count ≤ i → m ≡ n - 1 → take count list ≡ cond (eqb n 0) [] (take 8 (placesOf (covers c o (n - 1)) 64)) → (p : ℕ) → getD row p 0 ≡ spriteOn c left right o n p
@@ -147,4 +139,4 @@ module _ (c n m : ℕ) (left right o : List ℕ) (b : Bool) (u : n ≡ 0 → ⊥
 pub zero-covers : (c : ℕ) (o : List ℕ) (m : ℕ) (b : Bool) → b ≡ covers c o m 0 → b ≡ true → covers c o m 0 ≡ true
 zero-covers c o m b e t = sym e ∙ t
 
-pub ruleset zero-cases = (zero-1, zero-2, zero-3)
+pub ruleset zero-cases = (zero-1, zero-2, zero-3, zero-covers)

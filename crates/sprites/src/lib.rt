@@ -1,17 +1,18 @@
 // The sprites of a line: which it shows, and their pixels. Inner functions, not public calls.
-// The choice: height, distance, distances, counted, count, list_places, at_most_eight, choose.
-// A sprite's pattern on a line: row_of, second_table, tile_of, pattern_at, pattern_byte, fetch.
+// choose: the eight that a line shows, and overflow. Within: height, distance, distances, near_one, count, list_places, at_most_eight.
+// fetch: a sprite's two pattern bytes on a line. Within: row_of, second_table, tile_of, pattern_at, pattern_byte.
+// put_sprite, sprite_row, sprite_zero_row: a sprite over a row, the winning pixel of every column, sprite 0. Within: covering, line_before.
+// A row has 264 columns, so that a sprite at X = 255 has room; a line shows the first 256.
 ghost use mathlib.Core.Path.{_≡_};
-ghost use mathlib.Core.Bool.{cond, true, _&&_};
+ghost use mathlib.Core.Bool.{cond, true};
 ghost use mathlib.Core.List.{[]};
 ghost use Prim.Native.Nat.{ℕ, _+_, _-_, _<_, _≤_};
 ghost use lib.Dec.{eqb, ltb};
 ghost use lib.ListN.{length, getD, take};
 ghost use Rattle.model.specs.Line.{tab};
 ghost use Rattle.model.specs.Address.{tableOf};
-ghost use Rattle.model.specs.Sprites.{
-    oamAt, height as heightOf, covers, placesOf, countOf, rowOf, secondTable, tileOf, patternAt, fetched, shade, spriteOn, spriteZeroOn, overflows
-};
+ghost use Rattle.model.specs.Sprites.{height as heightOf, covers, placesOf, countOf, overflows};
+ghost use Rattle.model.specs.Sprites.{rowOf, secondTable, tileOf, patternAt, fetched, shade, spriteOn, spriteZeroOn};
 ghost use Rattle.sprites.specs.Distance.{distanceOf, distanceAt, isFrom, near};
 use model::Sprite;
 
@@ -23,7 +24,7 @@ pub struct Choice {
 
 // 8, or 16 by control bit 5.
 fn height(control: u8) -> u8
-    ensures { λ r. ⌜ (r ≡ heightOf control) × (r ≤ 16) ⌝ }
+    ensures { λ r. ⌜ (r ≡ heightOf control) × (8 ≤ r) × (r ≤ 16) ⌝ }
 {
     if bits::bit(control, 5) { 16 } else { 8 }
 }
@@ -211,7 +212,16 @@ pub fn put_sprite(s: Sprite, row: &mut [u8])
 }
 
 // The winning sprite pixel of every column of line n, from the choice's list: the first sprites are put first.
-pub fn sprite_row(control: u8, n: u8, count: usize, left: &[u8], right: &[u8], oam: &[u8], list: &[u8], row: &mut [u8])
+pub fn sprite_row(
+    control: u8,
+    n: u8,
+    count: usize,
+    left: &[u8],
+    right: &[u8],
+    oam: &[u8],
+    list: &[u8],
+    row: &mut [u8],
+)
     requires { ⌜ (length (now left) ≡ 4096) × (length (now right) ≡ 4096) × (length (now oam) ≡ 256) × (length (now list) ≡ 65) × (length (now row) ≡ 264) ⌝ }
     requires { ⌜ ((p : ℕ) → getD (now row) p 0 ≡ 0) × (count ≤ 8)
         × (take count (now list) ≡ cond (eqb n 0) [] (take 8 (placesOf (covers control (now oam) (n - 1)) 64))) ⌝ }
@@ -221,7 +231,10 @@ pub fn sprite_row(control: u8, n: u8, count: usize, left: &[u8], right: &[u8], o
     let above = line_before(n);
     let mut i = 0;
     while i < count {
-        put_sprite(fetch(control, above, bits::wide(list[i]), left, right, oam), row);
+        put_sprite(
+            fetch(control, above, bits::wide(list[i]), left, right, oam),
+            row,
+        );
         i += 1;
     }
 }

@@ -7,15 +7,12 @@ use Rattle.sprites.proofs.at_most_eight.Reads as reads
 use Rattle.sprites.proofs.at_most_eight.Lts as lts
 use Rattle.bits.proofs.wide.Reads as wide-reads
 
--- src/lib.rt:94:27
 wide-requires : tie.Need-wide-requires
 wide-requires c κs = search needs
 
--- src/lib.rt:91:1
 returns : tie.Need-returns
 returns c = search (eight-cases, arith)
 
--- src/lib.rt:91:1
 returns-2 : tie.Need-returns-2
 returns-2 c = search (eight-cases, arith)
 

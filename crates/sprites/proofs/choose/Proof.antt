@@ -11,55 +11,42 @@ use Rattle.sprites.proofs.distances.Reads as distances-reads
 use Rattle.sprites.proofs.height.Reads as height-reads
 use Rattle.sprites.proofs.list_places.Reads as list-places-reads
 
--- src/lib.rt:104:9
 height-requires : tie.Need-height-requires
 height-requires c κs = search needs
 
--- src/lib.rt:106:23
 slice-aggregate-distances : tie.Need-slice-aggregate-distances
 slice-aggregate-distances c = search needs
 
--- src/lib.rt:106:5
 distances-requires : tie.Need-distances-requires
 distances-requires c κs = search needs
 
--- src/lib.rt:107:26
 slice-aggregate-count : tie.Need-slice-aggregate-count
 slice-aggregate-count c = search needs
 
--- src/lib.rt:107:20
 count-requires : tie.Need-count-requires
 count-requires c κs = search needs
 
--- src/lib.rt:108:23
 slice-aggregate-count-2 : tie.Need-slice-aggregate-count-2
 slice-aggregate-count-2 c = search needs
 
--- src/lib.rt:108:9
 count-requires-2 : tie.Need-count-requires-2
 count-requires-2 c κs = search needs
 
--- src/lib.rt:110:9
 returns : tie.Need-returns
 returns c = search (choose-cases, arith)
 
--- src/lib.rt:112:17
 slice-aggregate-list-places : tie.Need-slice-aggregate-list-places
 slice-aggregate-list-places c = search needs
 
--- src/lib.rt:112:5
 list-places-requires : tie.Need-list-places-requires
 list-places-requires c κs = search needs
 
--- src/lib.rt:114:16
 at-most-eight-requires : tie.Need-at-most-eight-requires
 at-most-eight-requires c κs = search needs
 
--- src/lib.rt:99:1
 same-length : tie.Need-same-length
 same-length c = search needs
 
--- src/lib.rt:99:1
 returns-2 : tie.Need-returns-2
 returns-2 c = search (choose-cases, arith)
 

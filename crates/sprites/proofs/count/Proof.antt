@@ -14,35 +14,27 @@ Inv-loop d from h n₀ i₀ n i = Counted d from h n i
 abbrev μ-loop : tie.MeasureT-loop
 μ-loop d from h n₀ i₀ n i = 64 - i
 
--- src/lib.rt:67:5
 loop-holds : tie.Need-loop-holds Inv-loop μ-loop
 loop-holds c = search (counted-loop, arith)
 
--- src/lib.rt:68:23
 shared-slice-read-near-one : tie.Need-shared-slice-read-near-one Inv-loop μ-loop
 shared-slice-read-near-one c = search needs
 
--- src/lib.rt:68:14
 near-one-requires : tie.Need-near-one-requires Inv-loop μ-loop
 near-one-requires c κs = search needs
 
--- src/lib.rt:68:9
 add-n : tie.Need-add-n Inv-loop μ-loop
 add-n c = search needs
 
--- src/lib.rt:69:9
 add-i : tie.Need-add-i Inv-loop μ-loop
 add-i c = search needs
 
--- src/lib.rt:67:5
 loop-less : tie.Need-loop-less Inv-loop μ-loop
 loop-less c = search needs
 
--- src/lib.rt:67:5
 loop-again : tie.Need-loop-again Inv-loop μ-loop
 loop-again c = search (counted-loop, arith)
 
--- src/lib.rt:61:1
 returns : tie.Need-returns Inv-loop μ-loop
 returns c = search (counted-loop, arith)
 

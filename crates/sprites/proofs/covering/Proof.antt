@@ -7,31 +7,24 @@ use Rattle.sprites.proofs.covering.Lts as lts
 use Rattle.bits.proofs.wide.Reads as wide-reads
 use Rattle.sprites.proofs.height.Reads as height-reads
 
--- src/lib.rt:191:28
 mul-wide : tie.Need-mul-wide
 mul-wide c = search needs
 
--- src/lib.rt:191:24
 shared-slice-read-wide : tie.Need-shared-slice-read-wide
 shared-slice-read-wide c = search needs
 
--- src/lib.rt:191:9
 wide-requires : tie.Need-wide-requires
 wide-requires c κs = search needs
 
--- src/lib.rt:193:9
 returns : tie.Need-returns
 returns c = search covering-cases
 
--- src/lib.rt:195:24
 height-requires : tie.Need-height-requires
 height-requires c κs = search needs
 
--- src/lib.rt:195:13
 wide-requires-2 : tie.Need-wide-requires-2
 wide-requires-2 c κs = search needs
 
--- src/lib.rt:187:1
 returns-2 : tie.Need-returns-2
 returns-2 c = search covering-cases
 

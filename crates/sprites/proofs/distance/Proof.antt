@@ -4,11 +4,9 @@ use Rattle.sprites.proofs.distance.Tie as tie
 use Rattle.sprites.proofs.distance.Reads as reads
 use Rattle.sprites.proofs.distance.Lts as lts
 
--- src/lib.rt:32:1
 returns : tie.Need-returns
 returns c = search distance-cases
 
--- src/lib.rt:32:1
 returns-2 : tie.Need-returns-2
 returns-2 c = search distance-cases
 

@@ -14,43 +14,33 @@ Inv-loop n oam d₀ i₀ d i = Measured n oam d₀ d i
 abbrev μ-loop : tie.MeasureT-loop
 μ-loop n oam d₀ i₀ d i = 64 - i
 
--- src/lib.rt:44:5
 loop-holds : tie.Need-loop-holds Inv-loop μ-loop
 loop-holds c = search (measured-cases, arith)
 
--- src/lib.rt:45:32
 mul-distance : tie.Need-mul-distance Inv-loop μ-loop
 mul-distance c = search needs
 
--- src/lib.rt:45:28
 shared-slice-read-distance : tie.Need-shared-slice-read-distance Inv-loop μ-loop
 shared-slice-read-distance c = search needs
 
--- src/lib.rt:45:16
 distance-requires : tie.Need-distance-requires Inv-loop μ-loop
 distance-requires c κs = search needs
 
--- src/lib.rt:45:9
 slice-write-d : tie.Need-slice-write-d Inv-loop μ-loop
 slice-write-d c = search needs
 
--- src/lib.rt:46:9
 add-i : tie.Need-add-i Inv-loop μ-loop
 add-i c = search needs
 
--- src/lib.rt:44:5
 loop-less : tie.Need-loop-less Inv-loop μ-loop
 loop-less c = search needs
 
--- src/lib.rt:44:5
 loop-again : tie.Need-loop-again Inv-loop μ-loop
 loop-again c = search (measured-cases, arith)
 
--- src/lib.rt:39:1
 same-length : tie.Need-same-length Inv-loop μ-loop
 same-length c = search needs
 
--- src/lib.rt:39:1
 returns : tie.Need-returns Inv-loop μ-loop
 returns c = search (measured-cases, arith)
 

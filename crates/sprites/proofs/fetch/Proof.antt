@@ -8,51 +8,39 @@ use Rattle.sprites.proofs.pattern_at.Reads as pattern-at-reads
 use Rattle.sprites.proofs.pattern_byte.Reads as pattern-byte-reads
 use Rattle.sprites.proofs.second_table.Reads as second-table-reads
 
--- src/lib.rt:177:9
 pattern-at-requires : tie.Need-pattern-at-requires
 pattern-at-requires c κs = search needs
 
--- src/lib.rt:178:9
 second-table-requires : tie.Need-second-table-requires
 second-table-requires c κs = search needs
 
--- src/lib.rt:180:14
 pattern-byte-requires : tie.Need-pattern-byte-requires
 pattern-byte-requires c κs = search needs
 
--- src/lib.rt:181:36
 add-pattern-byte : tie.Need-add-pattern-byte
 add-pattern-byte c = search needs
 
--- src/lib.rt:181:15
 pattern-byte-requires-2 : tie.Need-pattern-byte-requires-2
 pattern-byte-requires-2 c κs = search needs
 
--- src/lib.rt:182:24
 mul-t12 : tie.Need-mul-t12
 mul-t12 c = search needs
 
--- src/lib.rt:182:24
 add-t13 : tie.Need-add-t13
 add-t13 c = search needs
 
--- src/lib.rt:182:20
 shared-slice-read-t15 : tie.Need-shared-slice-read-t15
 shared-slice-read-t15 c = search needs
 
--- src/lib.rt:183:16
 mul-t16 : tie.Need-mul-t16
 mul-t16 c = search needs
 
--- src/lib.rt:183:16
 add-t17 : tie.Need-add-t17
 add-t17 c = search needs
 
--- src/lib.rt:183:12
 shared-slice-read-t19 : tie.Need-shared-slice-read-t19
 shared-slice-read-t19 c = search needs
 
--- src/lib.rt:173:1
 returns : tie.Need-returns
 returns c = search fetch-1
 

@@ -7,15 +7,12 @@ use Rattle.sprites.proofs.height.Reads as reads
 use Rattle.sprites.proofs.height.Lts as lts
 use Rattle.bits.proofs.bit.Reads as bit-reads
 
--- src/lib.rt:28:8
 bit-requires : tie.Need-bit-requires
 bit-requires c κs = search needs
 
--- src/lib.rt:25:1
 returns : tie.Need-returns
 returns c = search (height-cases, arith)
 
--- src/lib.rt:25:1
 returns-2 : tie.Need-returns-2
 returns-2 c = search (height-cases, arith)
 

@@ -15,51 +15,39 @@ Inv-loop d from h list₀ n₀ i₀ list n i = Listed d from h list n i
 abbrev μ-loop : tie.MeasureT-loop
 μ-loop d from h list₀ n₀ i₀ list n i = 64 - i
 
--- src/lib.rt:81:5
 loop-holds : tie.Need-loop-holds Inv-loop μ-loop
 loop-holds c = search (listed-loop, arith)
 
--- src/lib.rt:82:19
 cast-list : tie.Need-cast-list Inv-loop μ-loop
 cast-list c = search needs
 
--- src/lib.rt:82:9
 slice-write-list : tie.Need-slice-write-list Inv-loop μ-loop
 slice-write-list c = search needs
 
--- src/lib.rt:83:34
 shared-slice-read-near-one : tie.Need-shared-slice-read-near-one Inv-loop μ-loop
 shared-slice-read-near-one c = search needs
 
--- src/lib.rt:83:25
 near-one-requires : tie.Need-near-one-requires Inv-loop μ-loop
 near-one-requires c κs = search needs
 
--- src/lib.rt:83:14
 wide-requires : tie.Need-wide-requires Inv-loop μ-loop
 wide-requires c κs = search needs
 
--- src/lib.rt:83:9
 add-n : tie.Need-add-n Inv-loop μ-loop
 add-n c = search needs
 
--- src/lib.rt:84:9
 add-i : tie.Need-add-i Inv-loop μ-loop
 add-i c = search needs
 
--- src/lib.rt:81:5
 loop-less : tie.Need-loop-less Inv-loop μ-loop
 loop-less c = search needs
 
--- src/lib.rt:81:5
 loop-again : tie.Need-loop-again Inv-loop μ-loop
 loop-again c = search (listed-loop, arith)
 
--- src/lib.rt:75:1
 same-length : tie.Need-same-length Inv-loop μ-loop
 same-length c = search needs
 
--- src/lib.rt:75:1
 returns : tie.Need-returns Inv-loop μ-loop
 returns c = search (listed-loop, arith)
 

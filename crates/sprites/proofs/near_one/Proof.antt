@@ -5,15 +5,12 @@ use Rattle.sprites.proofs.near_one.Tie as tie
 use Rattle.sprites.proofs.near_one.Reads as reads
 use Rattle.sprites.proofs.near_one.Lts as lts
 
--- src/lib.rt:55:9
 returns : tie.Need-returns
 returns c = search (near-cases, arith)
 
--- src/lib.rt:51:1
 returns-2 : tie.Need-returns-2
 returns-2 c = search (near-cases, arith)
 
--- src/lib.rt:51:1
 returns-3 : tie.Need-returns-3
 returns-3 c = search (near-cases, arith)
 

@@ -9,27 +9,21 @@ use Rattle.bits.proofs.low.Reads as low-reads
 use Rattle.sprites.proofs.row_of.Reads as row-of-reads
 use Rattle.sprites.proofs.tile_of.Reads as tile-of-reads
 
--- src/lib.rt:160:9
 row-of-requires : tie.Need-row-of-requires
 row-of-requires c κs = search needs
 
--- src/lib.rt:161:10
 tile-of-requires : tie.Need-tile-of-requires
 tile-of-requires c κs = search needs
 
--- src/lib.rt:161:5
 mul-result : tie.Need-mul-result
 mul-result c = search needs
 
--- src/lib.rt:161:42
 low-requires : tie.Need-low-requires
 low-requires c κs = search needs
 
--- src/lib.rt:161:5
 add-result : tie.Need-add-result
 add-result c = search needs
 
--- src/lib.rt:156:1
 returns : tie.Need-returns
 returns c = search (pattern-1, arith)
 

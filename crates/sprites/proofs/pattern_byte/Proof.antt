@@ -5,19 +5,15 @@ use Rattle.sprites.proofs.pattern_byte.Tie as tie
 use Rattle.sprites.proofs.pattern_byte.Reads as reads
 use Rattle.sprites.proofs.pattern_byte.Lts as lts
 
--- src/lib.rt:169:17
 shared-slice-read-result : tie.Need-shared-slice-read-result
 shared-slice-read-result c = search needs
 
--- src/lib.rt:169:36
 shared-slice-read-result-2 : tie.Need-shared-slice-read-result-2
 shared-slice-read-result-2 c = search needs
 
--- src/lib.rt:165:1
 returns : tie.Need-returns
 returns c = search byte-cases
 
--- src/lib.rt:165:1
 returns-2 : tie.Need-returns-2
 returns-2 c = search byte-cases
 

@@ -8,23 +8,18 @@ use Rattle.bits.proofs.wide.Reads as wide-reads
 use Rattle.pixels.proofs.put_over.Reads as put-over-reads
 use Rattle.pixels.proofs.sprite_bytes.Reads as sprite-bytes-reads
 
--- src/lib.rt:210:27
 wide-requires : tie.Need-wide-requires
 wide-requires c κs = search needs
 
--- src/lib.rt:210:44
 sprite-bytes-requires : tie.Need-sprite-bytes-requires
 sprite-bytes-requires c κs = search needs
 
--- src/lib.rt:210:5
 put-over-requires : tie.Need-put-over-requires
 put-over-requires c κs = search needs
 
--- src/lib.rt:205:1
 same-length : tie.Need-same-length
 same-length c = search needs
 
--- src/lib.rt:205:1
 returns : tie.Need-returns
 returns c = search (put-1, needs)
 

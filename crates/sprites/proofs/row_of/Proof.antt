@@ -9,59 +9,45 @@ use Rattle.bits.proofs.bit.Reads as bit-reads
 use Rattle.bits.proofs.wide.Reads as wide-reads
 use Rattle.sprites.proofs.height.Reads as height-reads
 
--- src/lib.rt:124:35
 mul-wide : tie.Need-mul-wide
 mul-wide c = search needs
 
--- src/lib.rt:124:31
 shared-slice-read-wide : tie.Need-shared-slice-read-wide
 shared-slice-read-wide c = search needs
 
--- src/lib.rt:124:20
 wide-requires : tie.Need-wide-requires
 wide-requires c κs = search needs
 
--- src/lib.rt:124:16
 sub-down : tie.Need-sub-down
 sub-down c = search (row-cases, arith)
 
--- src/lib.rt:125:22
 mul-bit : tie.Need-mul-bit
 mul-bit c = search needs
 
--- src/lib.rt:125:22
 add-bit : tie.Need-add-bit
 add-bit c = search needs
 
--- src/lib.rt:125:18
 shared-slice-read-bit : tie.Need-shared-slice-read-bit
 shared-slice-read-bit c = search needs
 
--- src/lib.rt:125:8
 bit-requires : tie.Need-bit-requires
 bit-requires c κs = search needs
 
--- src/lib.rt:126:28
 height-requires : tie.Need-height-requires
 height-requires c κs = search needs
 
--- src/lib.rt:126:13
 wide-requires-2 : tie.Need-wide-requires-2
 wide-requires-2 c κs = search needs
 
--- src/lib.rt:127:16
 sub-result : tie.Need-sub-result
-sub-result c = search (row-cases, arith)
+sub-result c = search needs
 
--- src/lib.rt:127:16
 sub-result-2 : tie.Need-sub-result-2
 sub-result-2 c = search (row-cases, arith)
 
--- src/lib.rt:127:9
 returns : tie.Need-returns
 returns c = search (row-cases, arith)
 
--- src/lib.rt:120:1
 returns-2 : tie.Need-returns-2
 returns-2 c = search (row-cases, arith)
 

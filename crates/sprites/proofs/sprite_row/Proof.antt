@@ -17,47 +17,36 @@ Inv-loop control n count left right oam list row₀ above i₀ row i = Won contr
 abbrev μ-loop : tie.MeasureT-loop
 μ-loop control n count left right oam list row₀ above i₀ row i = count - i
 
--- src/lib.rt:222:9
 line-before-requires : tie.Need-line-before-requires Inv-loop μ-loop
 line-before-requires c κs = search needs
 
--- src/lib.rt:224:5
 loop-holds : tie.Need-loop-holds Inv-loop μ-loop
 loop-holds c = search (won-loop, arith)
 
--- src/lib.rt:225:53
 shared-slice-read-wide : tie.Need-shared-slice-read-wide Inv-loop μ-loop
 shared-slice-read-wide c = search needs
 
--- src/lib.rt:225:42
 wide-requires : tie.Need-wide-requires Inv-loop μ-loop
 wide-requires c κs = search needs
 
--- src/lib.rt:225:20
 fetch-requires : tie.Need-fetch-requires Inv-loop μ-loop
 fetch-requires c κs = search (listed-cases, needs)
 
--- src/lib.rt:225:9
 put-sprite-requires : tie.Need-put-sprite-requires Inv-loop μ-loop
 put-sprite-requires c κs = search needs
 
--- src/lib.rt:226:9
 add-i : tie.Need-add-i Inv-loop μ-loop
 add-i c = search needs
 
--- src/lib.rt:224:5
 loop-less : tie.Need-loop-less Inv-loop μ-loop
 loop-less c = search needs
 
--- src/lib.rt:224:5
 loop-again : tie.Need-loop-again Inv-loop μ-loop
 loop-again c = search (won-loop, arith)
 
--- src/lib.rt:215:1
 same-length : tie.Need-same-length Inv-loop μ-loop
 same-length c = search needs
 
--- src/lib.rt:215:1
 returns : tie.Need-returns Inv-loop μ-loop
 returns c = search (won-loop, arith)
 

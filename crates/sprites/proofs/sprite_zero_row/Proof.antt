@@ -1,5 +1,5 @@
 use native.Mathlib.Omega.{arith}
-use Rattle.sprites.proofs.Winner.{zero-cases, zero-covers}
+use Rattle.sprites.proofs.Winner.{zero-cases}
 use borrow.Author.Needs.{needs}
 use Rattle.sprites.proofs.sprite_zero_row.Statement.{statement}
 use Rattle.sprites.proofs.sprite_zero_row.Tie as tie
@@ -10,35 +10,27 @@ use Rattle.sprites.proofs.fetch.Reads as fetch-reads
 use Rattle.sprites.proofs.line_before.Reads as line-before-reads
 use Rattle.sprites.proofs.put_sprite.Reads as put-sprite-reads
 
--- src/lib.rt:237:9
 returns : tie.Need-returns
 returns c = search (zero-cases, arith)
 
--- src/lib.rt:239:9
 line-before-requires : tie.Need-line-before-requires
 line-before-requires c κs = search needs
 
--- src/lib.rt:240:8
 covering-requires : tie.Need-covering-requires
 covering-requires c κs = search needs
 
--- src/lib.rt:241:20
 fetch-requires : tie.Need-fetch-requires
-fetch-requires c κs = search (zero-covers, needs)
+fetch-requires c κs = search (zero-cases, needs)
 
--- src/lib.rt:241:9
 put-sprite-requires : tie.Need-put-sprite-requires
 put-sprite-requires c κs = search needs
 
--- src/lib.rt:231:1
 same-length : tie.Need-same-length
 same-length c = search needs
 
--- src/lib.rt:231:1
 returns-2 : tie.Need-returns-2
 returns-2 c = search (zero-cases, arith)
 
--- src/lib.rt:231:1
 returns-3 : tie.Need-returns-3
 returns-3 c = search (zero-cases, arith)
 

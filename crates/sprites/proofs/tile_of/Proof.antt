@@ -8,39 +8,30 @@ use Rattle.sprites.proofs.tile_of.Lts as lts
 use Rattle.bits.proofs.bit.Reads as bit-reads
 use Rattle.bits.proofs.wide.Reads as wide-reads
 
--- src/lib.rt:148:31
 mul-wide : tie.Need-mul-wide
 mul-wide c = search needs
 
--- src/lib.rt:148:31
 add-wide : tie.Need-add-wide
 add-wide c = search needs
 
--- src/lib.rt:148:27
 shared-slice-read-wide : tie.Need-shared-slice-read-wide
 shared-slice-read-wide c = search needs
 
--- src/lib.rt:148:9
 wide-requires : tie.Need-wide-requires
 wide-requires c κs = search needs
 
--- src/lib.rt:149:8
 bit-requires : tie.Need-bit-requires
 bit-requires c κs = search needs
 
--- src/lib.rt:150:16
 mul-result : tie.Need-mul-result
 mul-result c = search needs
 
--- src/lib.rt:150:16
 add-result : tie.Need-add-result
 add-result c = search needs
 
--- src/lib.rt:150:9
 returns : tie.Need-returns
 returns c = search (tile-cases, arith)
 
--- src/lib.rt:144:1
 returns-2 : tie.Need-returns-2
 returns-2 c = search (tile-cases, arith)
 

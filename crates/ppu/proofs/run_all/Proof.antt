@@ -1,0 +1,50 @@
+use Rattle.ppu.proofs.Cases.{run-cases, line-long, line-formed}
+use borrow.Author.Needs.{needs}
+use Rattle.ppu.proofs.run_all.Statement.{statement}
+use Rattle.ppu.proofs.run_all.Tie as tie
+use Rattle.ppu.proofs.run_all.Reads as reads
+use Rattle.ppu.proofs.run_all.Lts as lts
+use Rattle.ppu.proofs.line_sizes.Reads as line-sizes-reads
+use Rattle.ppu.proofs.plain_refusal.Reads as plain-refusal-reads
+use Rattle.ppu.proofs.run_done.Reads as run-done-reads
+use Rattle.registers.proofs.refused.Reads as refused-reads
+
+-- src/lib.rt:383:9
+line-sizes-requires : tie.Need-line-sizes-requires
+line-sizes-requires c κs = search needs
+
+-- src/lib.rt:391:9
+plain-refusal-requires : tie.Need-plain-refusal-requires
+plain-refusal-requires c κs = search needs
+
+-- src/lib.rt:393:9
+refused-requires : tie.Need-refused-requires
+refused-requires c κs = search needs
+
+-- src/lib.rt:393:9
+returns : tie.Need-returns
+returns c = search run-cases
+
+-- src/lib.rt:395:5
+run-done-requires : tie.Need-run-done-requires
+run-done-requires c κs = (search line-long, search line-formed)
+
+-- src/lib.rt:370:1
+same-length : tie.Need-same-length
+same-length c = search needs
+
+-- src/lib.rt:370:1
+returns-2 : tie.Need-returns-2
+returns-2 c = search run-cases
+
+pub run-all-spec : {M : Type 1} → statement M
+run-all-spec =
+    tie.close
+    (tie.spec
+    line-sizes-requires
+    plain-refusal-requires
+    refused-requires
+    returns
+    run-done-requires
+    same-length
+    returns-2)
