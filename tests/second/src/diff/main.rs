@@ -26,6 +26,7 @@ use trial::{Stop, Tally, Trial};
 use world::Kind;
 
 const MIXED_CALLS: usize = 2000;
+const PICTURE_CALLS: usize = 500;
 
 struct Options {
     seed: u64,
@@ -77,7 +78,11 @@ fn session(seed: u64, number: u64, trial: &mut Trial) -> Result<(), Stop> {
         }
         left -= parts;
     }
-    mixed::session(trial, &mut random, MIXED_CALLS)
+    if left % 3 == 0 {
+        mixed::pictures(trial, &mut random, PICTURE_CALLS)
+    } else {
+        mixed::session(trial, &mut random, MIXED_CALLS)
+    }
 }
 
 fn systematic_sessions() -> u64 {

@@ -1,4 +1,4 @@
-//! Long sessions of random calls, the record and the memory carried along.
+//! Random sessions: long ones with the record and the memory carried along, and drawn lines.
 
 use crate::random::Random;
 use crate::scenery;
@@ -29,10 +29,30 @@ pub fn session(trial: &mut Trial, random: &mut Random, calls: usize) -> Result<(
         if kind == Run {
             call.most = run_length(trial, random);
         }
+        if kind == Dma && random.one_in(2) {
+            scatter_sprites(trial, random, Name::Page);
+        }
         if kind == Write && random.one_in(8) {
             follow_up(trial, random, &call)?;
         }
         trial.call(&call)?;
+    }
+    Ok(())
+}
+
+/// Drawn lines, each with a unit of its own and sprites about it.
+pub fn pictures(trial: &mut Trial, random: &mut Random, calls: usize) -> Result<(), Stop> {
+    for number in 0..calls {
+        if number % 50 == 0 {
+            refill(trial, random);
+        }
+        let mut unit = scenery::unit(random);
+        let line = random.below(240) as u16;
+        unit[1] |= random.pick(&[0x08, 0x10, 0x18, 0x18, 0x1E]);
+        unit[12..14].copy_from_slice(&line.to_le_bytes());
+        trial.set(Name::Unit, &unit);
+        scatter_sprites(trial, random, Name::Oam);
+        trial.call(&Call::line())?;
     }
     Ok(())
 }
@@ -50,18 +70,15 @@ fn disturb(trial: &mut Trial, random: &mut Random) {
             unit[12..14].copy_from_slice(&(random.below(262) as u16).to_le_bytes());
             trial.set(Name::Unit, &unit);
         }
-        4 | 5 => {
-            let line = scenery::next_line(&unit).min(261);
-            trial.set(Name::Oam, &scenery::oam(random, line));
-        }
-        6 => trial.set(Name::Left, &scenery::table(random)),
-        7 => trial.set(Name::Right, &scenery::table(random)),
-        8 => trial.set(Name::Nametables, &scenery::nametables(random)),
-        9 => {
+        4..=11 => scatter_sprites(trial, random, Name::Oam),
+        12 => trial.set(Name::Left, &scenery::table(random)),
+        13 => trial.set(Name::Right, &scenery::table(random)),
+        14 => trial.set(Name::Nametables, &scenery::nametables(random)),
+        15 => {
             unit[14] = 1;
             trial.set(Name::Unit, &unit);
         }
-        10..=13 => {
+        16..=19 => {
             unit[1] ^= random.pick(&[0x02, 0x04, 0x06, 0x08, 0x10, 0x18]);
             trial.set(Name::Unit, &unit);
         }
@@ -71,6 +88,12 @@ fn disturb(trial: &mut Trial, random: &mut Random) {
     if malformed && random.one_in(3) {
         trial.set(Name::Unit, &scenery::unit(random));
     }
+}
+
+/// Sprites that have to do with the next line, into OAM or the page for sprite DMA.
+fn scatter_sprites(trial: &mut Trial, random: &mut Random, name: Name) {
+    let line = scenery::next_line(&trial.unit()).min(261);
+    trial.set(name, &scenery::oam(random, line));
 }
 
 fn mislength(random: &mut Random, call: &mut Call) {
