@@ -11,7 +11,7 @@
 #include "second.h"
 
 enum { UNIT, LEFT, RIGHT, NAMETABLES, OAM, PALETTE, LINE, PAGE, MEMORIES };
-enum { LONGEST = 4096, SLACK = 16, STEPS = 100, CONTENTS = 16 };
+enum { LONGEST = 4096, SLACK = 16, STEPS = 60, MOST_LINES = 24, CONTENTS = 16 };
 
 static const size_t right_length[MEMORIES] = {16, 4096, 4096, 2048, 256, 32, 256, 256};
 
@@ -116,7 +116,7 @@ static void step(unsigned what)
         compare("line", ppu_line(SLICE(library, UNIT), PICTURE(library)), second_line(SLICE(second, UNIT), PICTURE(second)));
         break;
     case 4:
-        byte = what & 8 ? take() : what >> 4;
+        byte = (what & 8 ? take() : what >> 4) % (MOST_LINES + 1);
         compare("run", ppu_run(SLICE(library, UNIT), byte, PICTURE(library)),
                 second_run(SLICE(second, UNIT), byte, PICTURE(second)));
         break;

@@ -78,7 +78,7 @@ fn session(seed: u64, number: u64, trial: &mut Trial) -> Result<(), Stop> {
         }
         left -= parts;
     }
-    if left % 3 == 0 {
+    if left.is_multiple_of(3) {
         mixed::pictures(trial, &mut random, PICTURE_CALLS)
     } else {
         mixed::session(trial, &mut random, MIXED_CALLS)
