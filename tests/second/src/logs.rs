@@ -1,9 +1,10 @@
 //! Logs through both players, byte for byte.
 //!
-//!     logs PLAYER [--seed N] [--logs N] [--keep FILE]
+//!     logs PLAYER [--seed N] [--logs N] [--keep FILE] [--captures FOLDER]
 //!
-//! The first log whose outputs differ is cut to the shortest front that still differs, printed in hex, and
-//! kept in the file if one is named.
+//! Random logs, or the logs of captures (FOLDER/*.l01) with the answers that they hold taken out.
+//! The first log whose outputs differ is cut after the record that makes the difference, printed in hex,
+//! and kept in the file if one is named.
 
 #[path = "diff/random.rs"]
 #[allow(dead_code)]
@@ -101,17 +102,19 @@ struct Options {
     seed: u64,
     logs: u64,
     keep: Option<String>,
+    captures: Option<String>,
 }
 
 fn options() -> Option<Options> {
     let mut words = std::env::args().skip(1);
-    let mut options = Options { player: words.next()?, seed: 1, logs: 300, keep: None };
+    let mut options = Options { player: words.next()?, seed: 1, logs: 300, keep: None, captures: None };
     while let Some(word) = words.next() {
         let value = words.next()?;
         match word.as_str() {
             "--seed" => options.seed = value.parse().ok()?,
             "--logs" => options.logs = value.parse().ok()?,
             "--keep" => options.keep = Some(value),
+            "--captures" => options.captures = Some(value),
             _ => return None,
         }
     }
@@ -126,9 +129,16 @@ fn agreed(player: &str, log: &[u8]) -> Option<Vec<u8>> {
 }
 
 fn tell(options: &Options, number: u64, log: &[u8]) {
-    let fronts = (0..=log.len()).step_by(4).chain([log.len()]);
-    let front =
-        fronts.map(|n| &log[..n]).find(|front| agreed(&options.player, front).is_none()).unwrap_or(log);
+    let front_of = |records: usize| &log[..log.len().min(4 * records)];
+    let (mut same, mut apart) = (0, log.len().div_ceil(4));
+    while same + 1 < apart {
+        let middle = (same + apart) / 2;
+        match agreed(&options.player, front_of(middle)) {
+            Some(_) => same = middle,
+            None => apart = middle,
+        }
+    }
+    let front = front_of(apart);
     println!("DIFFERENCE: seed {} log {number}, its first {} bytes:", options.seed, front.len());
     let hex: Vec<String> = front.chunks(4).map(|r| r.iter().map(|b| format!("{b:02x}")).collect()).collect();
     println!("{}", hex.join(" "));
@@ -146,27 +156,53 @@ fn tell(options: &Options, number: u64, log: &[u8]) {
     }
 }
 
+/// The captures' logs, their answers taken out, as a player wants them.
+fn captured_logs(folder: &str) -> Vec<Vec<u8>> {
+    let files = std::fs::read_dir(folder).expect("the folder of captures").map(|file| file.unwrap().path());
+    let mut names: Vec<_> = files.filter(|path| path.extension().is_some_and(|e| e == "l01")).collect();
+    names.sort();
+    let mut logs: Vec<Vec<u8>> = names.iter().map(|path| std::fs::read(path).unwrap()).collect();
+    for record in logs.iter_mut().flat_map(|log| log.chunks_mut(4)).filter(|record| record[0] == 0) {
+        record[3] = 0;
+    }
+    logs
+}
+
+/// The log of a number: first the empty one and document 01's, then random ones.
+fn random_log(seed: u64, number: u64) -> Vec<u8> {
+    match number {
+        0 => Vec::new(),
+        1 => unhex(EXAMPLE),
+        _ => log(&mut Random::of_session(seed, number)),
+    }
+}
+
 fn main() -> ExitCode {
     let Some(options) = options() else {
-        eprintln!("usage: logs PLAYER [--seed N] [--logs N] [--keep FILE]");
+        eprintln!("usage: logs PLAYER [--seed N] [--logs N] [--keep FILE] [--captures FOLDER]");
         return ExitCode::from(2);
     };
     assert_eq!(String::from_utf8(on_second(&unhex(EXAMPLE))).unwrap(), PRINTED);
-    let fixed = [Vec::new(), unhex(EXAMPLE)];
-    let (mut records, mut bytes) = (0, 0);
-    for number in 0..options.logs {
-        let random = || log(&mut Random::of_session(options.seed, number));
-        let log = fixed.get(number as usize).cloned().unwrap_or_else(random);
+    let logs: Box<dyn Iterator<Item = Vec<u8>>> = match &options.captures {
+        Some(folder) => Box::new(captured_logs(folder).into_iter()),
+        None => Box::new((0..options.logs).map(|number| random_log(options.seed, number))),
+    };
+    let (mut count, mut records, mut bytes) = (0, 0, 0);
+    for log in logs {
         let Some(printed) = agreed(&options.player, &log) else {
-            tell(&options, number, &log);
+            tell(&options, count, &log);
             return ExitCode::FAILURE;
         };
+        count += 1;
         records += log.len() / 4;
         bytes += printed.len();
     }
+    let which = match &options.captures {
+        Some(_) => "captures".into(),
+        None => format!("seed {}", options.seed),
+    };
     println!(
-        "seed {}: {} logs of {records} records through both players, {bytes} bytes of output, no difference",
-        options.seed, options.logs
+        "{which}: {count} logs of {records} records through both players, {bytes} bytes of output, no difference"
     );
     ExitCode::from(if bytes > 0 { 0 } else { 2 })
 }
