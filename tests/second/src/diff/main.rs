@@ -195,6 +195,33 @@ fn is_whole(tally: &Tally) -> bool {
         && (!library::LINES || lines.iter().all(|&n| n > 0))
 }
 
+/// The kept cases, then the sessions, with a report of what was done.
+fn compare(options: &Options) -> ExitCode {
+    if !library::LINES {
+        println!("the archive has no ppu_line and ppu_run: fresh, accesses and sprite DMA only");
+    }
+    if let Some(path) = &options.cases {
+        let Some(played) = kept_cases(path) else { return ExitCode::FAILURE };
+        println!("{played} kept cases, no difference");
+    }
+    let seed = options.seed;
+    let (difference, tally, ended) = trials(options);
+    println!("seed {seed}: {} calls in {ended} whole sessions, compared after each:", tally.calls());
+    print_tally(&tally);
+    if let Some((number, call)) = difference {
+        println!("DIFFERENCE: seed {seed} session {number} call {call}");
+        println!("replay: diff --seed {seed} --replay {number}:{call}");
+        tell(case_of(seed, number, call).expect("the session comes to that call again"));
+        return ExitCode::FAILURE;
+    }
+    if ended < systematic_sessions().min(options.sessions) || !is_whole(&tally) {
+        println!("too little was done: the systematic sessions or a kind of answer is missing");
+        return ExitCode::from(2);
+    }
+    println!("no difference");
+    ExitCode::SUCCESS
+}
+
 fn main() -> ExitCode {
     let Some(options) = options() else {
         eprintln!("usage: diff [--seed N] [--seconds N] [--sessions N] [--threads N] [--cases FILE]");
@@ -203,36 +230,10 @@ fn main() -> ExitCode {
     };
     if let Some(text) = &options.case {
         tell(Case::parse(text).expect("the text is a case"));
-        return ExitCode::SUCCESS;
-    }
-    if let Some((number, call)) = options.replay {
+    } else if let Some((number, call)) = options.replay {
         tell(case_of(options.seed, number, call).expect("the session has that call"));
-        return ExitCode::SUCCESS;
+    } else {
+        return compare(&options);
     }
-    if !library::LINES {
-        println!("the archive has no ppu_line and ppu_run: fresh, accesses and sprite DMA only");
-    }
-    if let Some(path) = &options.cases {
-        let Some(played) = kept_cases(path) else { return ExitCode::FAILURE };
-        println!("{played} kept cases, no difference");
-    }
-    let (difference, tally, ended) = trials(&options);
-    println!(
-        "seed {}: {} calls in {ended} whole sessions, compared after each:",
-        options.seed,
-        tally.calls()
-    );
-    print_tally(&tally);
-    if let Some((number, call)) = difference {
-        println!("DIFFERENCE: seed {} session {number} call {call}", options.seed);
-        println!("replay: diff --seed {} --replay {number}:{call}", options.seed);
-        tell(case_of(options.seed, number, call).expect("the session comes to that call again"));
-        return ExitCode::FAILURE;
-    }
-    if ended < systematic_sessions().min(options.sessions) || !is_whole(&tally) {
-        println!("too little was done: the systematic sessions or a kind of answer is missing");
-        return ExitCode::from(2);
-    }
-    println!("no difference");
     ExitCode::SUCCESS
 }
