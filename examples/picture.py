@@ -62,6 +62,7 @@ write(5, 0)
 write(0, 0x80)                              # NMI on
 write(1, 0x1E)                              # background and sprites, left column too
 for _ in range(3):
-    run(262)
+    run(242)                                # to the vertical blank
     read(2)
+    run(20)
 Path(__file__).with_name("picture.log").write_bytes(log)
