@@ -1,0 +1,68 @@
+#!/usr/bin/env python3
+"""Writes examples/picture.log: a log that fills pattern memory, nametable, palette and OAM through the ports and runs three pictures.
+
+The picture says BLOOMCHISEL 2C02, with a row of sprites below it. Play it with ./play examples/picture.log.
+"""
+from pathlib import Path
+
+# 8 x 8 letters, a row a number, bit 7 leftmost.
+FONT = {
+    "B": "7C 66 66 7C 66 66 7C 00", "C": "3C 66 60 60 60 66 3C 00", "E": "7E 60 60 7C 60 60 7E 00", "H": "66 66 66 7E 66 66 66 00",
+    "I": "3C 18 18 18 18 18 3C 00", "L": "60 60 60 60 60 60 7E 00", "M": "63 77 7F 6B 63 63 63 00", "O": "3C 66 66 66 66 66 3C 00",
+    "S": "3C 66 60 3C 06 66 3C 00", "0": "3C 66 6E 76 66 66 3C 00", "2": "3C 66 06 0C 18 30 7E 00", " ": "00 00 00 00 00 00 00 00",
+}
+BALL = "3C 7E FF FF FF FF 7E 3C"
+TEXT = "BLOOMCHISEL 2C02"
+
+log = bytearray()
+
+
+def write(port, byte):
+    log.extend((1, 0x20, port, byte))
+
+
+def read(port):
+    log.extend((0, 0x20, port, 0))
+
+
+def run(lines):
+    log.extend((2, lines >> 8, lines & 255, 0))
+
+
+def at(address):
+    read(2)
+    write(6, address >> 8)
+    write(6, address & 255)
+
+
+def fill(address, data):
+    at(address)
+    for byte in data:
+        write(7, byte)
+
+
+run(262)                                    # the unit warms up
+letters = sorted(set(TEXT))
+tiles = {letter: 1 + index for index, letter in enumerate(letters)}
+for letter, tile in tiles.items():
+    fill(16 * tile, bytes.fromhex(FONT[letter]) + bytes(8))
+fill(16 * 32, bytes.fromhex(BALL) + bytes.fromhex("00 18 3C 3C 00 00 00 00"))
+fill(0x3F00, bytes.fromhex("0F 30 16 27 0F 2A 1A 0A 0F 21 11 01 0F 28 18 08 0F 16 27 30 0F 12 21 31 0F 2A 1A 3A 0F 24 14 34"))
+fill(0x2000, bytes(960))
+fill(0x2000 + 32 * 12 + 8, bytes(tiles[letter] for letter in TEXT))
+fill(0x23C0, bytes((0x00, 0x55, 0xAA, 0xFF) * 16))
+write(3, 0)
+for index in range(64):
+    sprite = (140, 32, index % 4, 40 + 24 * index) if index < 8 else (255, 0, 0, 0)
+    for byte in sprite:
+        write(4, byte)
+read(2)
+write(5, 0)
+write(5, 0)
+write(0, 0x80)                              # NMI on
+write(1, 0x1E)                              # background and sprites, left column too
+for _ in range(3):
+    run(242)                                # to the vertical blank
+    read(2)
+    run(20)
+Path(__file__).with_name("picture.log").write_bytes(log)
