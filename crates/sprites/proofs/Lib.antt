@@ -1,4 +1,5 @@
 pub mod Places
 pub mod Loops
 pub mod Winner
+pub mod Row
 pub mod Cases
