@@ -3,3 +3,4 @@ pub mod Loops
 pub mod Winner
 pub mod Row
 pub mod Cases
+pub mod Records
