@@ -4,3 +4,4 @@ pub mod Winner
 pub mod Row
 pub mod Cases
 pub mod Records
+pub mod Again
