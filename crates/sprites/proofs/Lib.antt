@@ -5,3 +5,4 @@ pub mod Row
 pub mod Cases
 pub mod Records
 pub mod Again
+pub mod Four

@@ -8,7 +8,7 @@ use prog.Wp.{Heap}
 use ghost.Atoms.{Atoms}
 use types.Kit.{Given}
 use denote.RattleType.{RattleType}
-use denote.Laws.{Is, Tells, Makes, Copy}
+use denote.Laws.{Is, Tells, Makes, Copy, Lawful}
 use denote.Struct.Laws as LL
 use Rattle.model.specs.declared.Sprite.{Sprite}
 use Rattle.model.proofs.Sprite as T
@@ -38,5 +38,8 @@ module _ {M : Type 1} (𝓤 : URA M) (H : Heap 𝓤) (A : Atoms 𝓤) where
     abbrev pub copies : Copy 𝓤 H A R
     copies = LL.copy T.the-type T′.the-copy 𝓤 H A W
 
+    pub lawful : Lawful 𝓤 H A R
+    lawful = LL.lawful T.the-type T′.the-laws 𝓤 H A W
+
     pub typed : (s : Sprite) (w : Val) → Is R s (w ∷ []) → Holds (hasTy T′.mir w) × WT w
-    typed s w is = LL.lawful T.the-type T′.the-laws 𝓤 H A W .typed s (w ∷ []) is .0
+    typed s w is = lawful .typed s (w ∷ []) is .0

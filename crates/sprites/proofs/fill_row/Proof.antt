@@ -37,9 +37,7 @@ use denote.Laws.{Is, shows}
 use denote.Plain.{uint-vals, uint-tells, uint-makes}
 use denote.Builtin.{u8, usize}
 use denote.Ref.{RefT, now}
-use denote.Slice.{sliceTy, sliceVal, MutSlice, ShrSlice, Room, heres, codedHoleys, at-slice, slice-vals, mut-slice-tells, shr-slice-tells, shr-slice-copy}
-use denote.Struct.Struct.{twices}
-use denote.Struct.Laws as LL
+use denote.Slice.{sliceTy, sliceVal, MutSlice, ShrSlice, Room, heres, codedHoleys, at-slice, slice-vals, mut-slice-tells, shr-slice-tells}
 use denote.Lend.{Held}
 use denote.Index.{place-is, row, elem-out, elem-put, opens-slice, closes-slice}
 use denote.Steps.{owned, peeks, heard, nothing}
@@ -59,6 +57,7 @@ use Rattle.sprites.specs.Row.{shownOn}
 use Rattle.sprites.proofs.Winner.{listed-at}
 use Rattle.sprites.proofs.Row.{none, filled, length-filled, filled-more, filled-shown}
 use Rattle.sprites.proofs.Records.{R, byValue, vals, tells, makes, typed}
+use Rattle.sprites.proofs.Four.{Lent, lent-twice}
 use Rattle.sprites.proofs.listed as listed
 use Rattle.sprites.proofs.listed.Symbol as listed-def
 use Rattle.sprites.proofs.listed.Symbol.{name as #sprites·listed}
@@ -121,14 +120,11 @@ module _ {M : Type 1} (𝓤 : URA M) (H : Heap 𝓤) (A : Atoms 𝓤) (W : Given
   abbrev Tokens : Item 𝓤
   Tokens = raw (toks 𝓤 A 4 κs qs)
 
-  abbrev Lent : Fml
-  Lent = owns (Mems κs) mems mem-vals
+  abbrev Slices : Fml
+  Slices = Lent (κs .0) (κs .1 .0) (κs .1 .1 .0) (κs .1 .1 .1 .0) left right oam list
 
-  lent-twice : ent 𝓤 (sem 𝓤 H A Lent) (sep 𝓤 (sem 𝓤 H A Lent) (sem 𝓤 H A Lent))
-  lent-twice =
-      twices 𝓤 H A W (Mems κs)
-      (shr-slice-copy 𝓤 H A W (named 1) (κs .0) u8, (shr-slice-copy 𝓤 H A W (named 2) (κs .1 .0) u8, (shr-slice-copy 𝓤 H A W (named 3) (κs .1 .1 .0) u8, (shr-slice-copy 𝓤 H A W (named 4) (κs .1 .1 .1 .0) u8, tt))))
-      mems mem-vals
+  slices-twice : ent 𝓤 (sem 𝓤 H A Slices) (sep 𝓤 (sem 𝓤 H A Slices) (sem 𝓤 H A Slices))
+  slices-twice = lent-twice (κs .0) (κs .1 .0) (κs .1 .1 .0) (κs .1 .1 .1 .0) left right oam list 𝓤 H A W
 
   -- the row after i turns, and sprite i
   abbrev Row : ℕ → List Sprite
@@ -150,10 +146,10 @@ module _ {M : Type 1} (𝓤 : URA M) (H : Heap 𝓤) (A : Atoms 𝓤) (W : Given
   abbrev to-listed : ℕ → Listed 𝓤 H A mem run .Ghost
   to-listed i = ((κs, qs, tt, (c, (n, (i, mems))), (vint w8 c ∷ [], (vint w8 n ∷ [], (vint w64 i ∷ [], mem-vals)))), tt)
 
-  goes-listed : (i : ℕ) → i < count → ent 𝓤 (⋆ 𝓤 H A (Tokens ∷ ‵ Lent ∷ [])) (Listed 𝓤 H A mem run .pre (to-listed i))
+  goes-listed : (i : ℕ) → i < count → ent 𝓤 (⋆ 𝓤 H A (Tokens ∷ ‵ Slices ∷ [])) (Listed 𝓤 H A mem run .pre (to-listed i))
   goes-listed i lt =
       let k = listed-at c n count (now oam) (now list) (asked .5) (asked .4) (asked .6) i lt in
-      qed W (Tokens ∷ ‵ Lent ∷ []) ∵ says ! (asked .1, asked .2, asked .3, in-list i lt, k .0, k .1) $ frame ! $
+      qed W (Tokens ∷ ‵ Slices ∷ []) ∵ says ! (asked .1, asked .2, asked .3, in-list i lt, k .0, k .1) $ frame ! $
       owned ! usize (Is usize) (uint-makes 𝓤 H A W w64) i _ (refl, omega arith) $ fjoin ! $ owned ! u8 (Is u8) (uint-makes 𝓤 H A W w8) n _ (refl, n-fits) $ fjoin ! $
       owned ! u8 (Is u8) (uint-makes 𝓤 H A W w8) c _ (refl, c-fits) $ fjoin ! $ done !
 
@@ -165,7 +161,7 @@ module _ {M : Type 1} (𝓤 : URA M) (H : Heap 𝓤) (A : Atoms 𝓤) (W : Given
   Out-list = record { ptr = (b, o); name = γ; now = Row count }
 
   abbrev Last : List (Item 𝓤)
-  Last = ‵ (fobs γ (codedHoleys R .code (heres R (Row count)))) ∷ ‵ (fbor κ (Held R (length (Row count)) b o γ)) ∷ ‵ (flft κ q) ∷ Tokens ∷ ‵ Lent ∷ []
+  Last = ‵ (fobs γ (codedHoleys R .code (heres R (Row count)))) ∷ ‵ (fbor κ (Held R (length (Row count)) b o γ)) ∷ ‵ (flft κ q) ∷ Tokens ∷ ‵ Slices ∷ []
 
   exits : ent 𝓤 (⋆ 𝓤 H A Last) (Post vunit)
   exits =
@@ -209,7 +205,7 @@ module _ {M : Type 1} (𝓤 : URA M) (H : Heap 𝓤) (A : Atoms 𝓤) (W : Given
     -- at the head of a turn: the row, its open borrow, the four slices, and the locals from the last, each with what frees it
     abbrev At : Upto → List (Item 𝓤)
     At i =
-        ‵ (row R fullShare (Row (i .0)) b o) ∷ ‵ (fobor κ q (Held R (length ys) b o γ)) ∷ ‵ (fobs γ (codedHoleys R .code (heres R ys))) ∷ ‵ (fauth γ (codedHoleys R .code (heres R ys))) ∷ Tokens ∷ ‵ Lent
+        ‵ (row R fullShare (Row (i .0)) b o) ∷ ‵ (fobor κ q (Held R (length ys) b o γ)) ∷ ‵ (fobs γ (codedHoleys R .code (heres R ys))) ∷ ‵ (fauth γ (codedHoleys R .code (heres R ys))) ∷ Tokens ∷ ‵ Slices
         ∷ ‵ (froom tyPtr l13 0) ∷ ‵ (fdies tyPtr l13)
         ∷ ‵ (froom (tyInt w64) l12 0) ∷ ‵ (fdies (tyInt w64) l12)
         ∷ ‵ (froom byValue l11 0) ∷ ‵ (fdies byValue l11)
@@ -237,7 +233,7 @@ module _ {M : Type 1} (𝓤 : URA M) (H : Heap 𝓤) (A : Atoms 𝓤) (W : Given
         assigns ! (bin ! (load ! (from ! (stop !)) (look ! 14 refl)) (load ! (from ! (stop !)) (look ! 24 refl)) tt) (from ! (stop !)) (init ! 12 refl (tt, tt)) $
         rewrite ! 12 (λ (t : Bool). ‵ (fat fullShare tyBool l10 0 (vbool t))) (lt-ltb (i .0) count lt) refl $ stays ! (load ! (from ! (stop !)) (look ! 12 refl)) $
         -- `listed`
-        move ! (5 ∷ []) $ use1 W (‵ Lent ⊛ ‵ Lent) lent-twice $ split ! $ move ! (6 ∷ 0 ∷ []) $ use2 W (raw (Listed 𝓤 H A mem run .pre (to-listed (i .0)))) (goes-listed (i .0) lt) $
+        move ! (5 ∷ []) $ use1 W (‵ Slices ⊛ ‵ Slices) slices-twice $ split ! $ move ! (6 ∷ 0 ∷ []) $ use2 W (raw (Listed 𝓤 H A mem run .pre (to-listed (i .0)))) (goes-listed (i .0) lt) $
         calls-at ! fm (Listed 𝓤 H A mem run) known (to-listed (i .0)) (and-then ! (load ! (from ! (stop !)) (look ! 28 refl)) (and-then ! (load ! (from ! (stop !)) (look ! 26 refl)) (and-then ! (load ! (from ! (stop !)) (look ! 14 refl)) (and-then ! (load ! (from ! (stop !)) (look ! 22 refl)) (and-then ! (load ! (from ! (stop !)) (look ! 20 refl)) (and-then ! (load ! (from ! (stop !)) (look ! 18 refl)) (and-then ! (load ! (from ! (stop !)) (look ! 16 refl)) (no-more !)))))))) (λ w.
         use1 W (later (some (λ (s : Sprite). (Tokens ⊛ ‵ (R .own s (w ∷ []))) ⊛ raw (ensured 𝓤 H A listed.ended (listed.clauses 𝓤 H A mem run) κs (c, (n, (i .0, mems))) tt s)))) (id⊢ 𝓤 _) $ await ! tt $ pick ! (λ s.
         split ! $ move ! (1 ∷ []) $ use1 W (raw (fact 𝓤 (s ≡ sprite (i .0)))) (said (i .0) s) $ heard ! (s ≡ sprite (i .0)) (λ e. split ! $
