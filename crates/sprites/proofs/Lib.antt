@@ -3,6 +3,6 @@ pub mod Loops
 pub mod Winner
 pub mod Row
 pub mod Cases
-pub mod Records
+pub mod Walk
 pub mod Again
 pub mod Four

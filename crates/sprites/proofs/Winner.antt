@@ -1,15 +1,14 @@
 -- The sprites that a line shows, in the choice's list and in the row; put one after the other, the first opaque pixel of each column stays.
-use Prim.Native.Nat.{ℕ, zero, suc, _+_, _-_, _<_, _≤_}
+use Prim.Native.Nat.{ℕ, suc, _-_, _<_, _≤_}
 use mathlib.Core.Path.{_≡_, refl, ap, sym, _∙_}
 use mathlib.Core.Bool.{Bool, true, false, cond, and-false}
 use mathlib.Core.Logic.{⊎-elim}
-use mathlib.Core.List.{List, [], _∷_, _++_, map, map-append}
+use mathlib.Core.List.{List, [], _∷_, _++_, map}
 use native.Mathlib.Omega.{arith}
-use native.Mathlib.Numerals.{add-one}
 use borrow.Author.Tests.{ne-eqb, lt-ltb}
 use lib.Dec.{eqb, ltb}
 use lib.ListN.{length, getD, take}
-use lib.Seq.{take-suc, take-all, getD-take, length-take-le}
+use lib.Seq.{take-all, getD-take, length-take-le}
 use Rattle.model.specs.declared.Sprite.{Sprite}
 use Rattle.model.specs.Sprites.{covers, placesOf, countOf, fetched, chosen, shade, winner, spriteOn, spriteZeroOn}
 use Rattle.model.proofs.Scroll.{lt-or-ge}

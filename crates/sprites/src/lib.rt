@@ -1,8 +1,8 @@
 // The sprites of a line: which it shows, and their pixels. Inner functions, not public calls.
 // choose: the eight that a line shows, and overflow. Within: height, distance, distances, near_one, count, list_places, at_most_eight.
 // fetch: a sprite's two pattern bytes on a line. Within: row_of, second_table, tile_of, pattern_at, pattern_byte.
-// put_sprite, sprite_row, sprite_zero_row: a sprite over a row, the winning pixel of every column, sprite 0. Within: covering, line_before.
-// A row has 264 columns, so that a sprite at X = 255 has room; a line shows the first 256.
+// put_sprite, sprite_row, sprite_zero_row: a sprite over pixels, the winning pixel of every column, sprite 0. Within: covering, line_before,
+// listed, fill_row, draw_row. Pixels have 264 columns, so that a sprite at X = 255 has room; a line shows the first 256.
 ghost use mathlib.Core.Path.{_≡_};
 ghost use mathlib.Core.Bool.{cond, true};
 ghost use mathlib.Core.List.{[], _++_};
@@ -221,7 +221,7 @@ fn listed(control: u8, n: u8, i: usize, left: &[u8], right: &[u8], oam: &[u8], l
     fetch(control, line_before(n), bits::wide(list[i]), left, right, oam)
 }
 
-// The sprites that line n shows, `count` of them, from the choice's list into the row; its other places stay as they are.
+// The sprites that line n shows, `count` of them, from the choice's list into the row in OAM order. Places past them stay as they are.
 fn fill_row(
     row: &mut [Sprite],
     control: u8,
@@ -236,26 +236,26 @@ fn fill_row(
         × (count ≤ 8) × (take count (now list) ≡ cond (eqb n 0) [] (take 8 (placesOf (covers control (now oam) (n - 1)) 64))) ⌝ }
     ensures { λ _. ⌜ now (row .exit) ≡ shownOn control (now (left .entry)) (now (right .entry)) (now (oam .entry)) n ++ drop count (now (row .entry)) ⌝ }
 {
-    let mut i = 0;
-    while i < count {
-        row[i] = listed(control, n, i, left, right, oam, list);
-        i += 1;
+    let mut place = 0;
+    while place < count {
+        row[place] = listed(control, n, place, left, right, oam, list);
+        place += 1;
     }
 }
 
-// The first `count` sprites of the row over pixels where nothing stands: the winning pixel of every column.
+// The winning pixel of every column, from the first `count` sprites of the row: the first are put first.
 fn draw_row(row: &[Sprite], count: usize, pixels: &mut [u8])
     requires { ⌜ (count ≤ length (now row)) × (length (now pixels) ≡ 264) × ((p : ℕ) → getD (now pixels) p 0 ≡ 0) ⌝ }
     ensures { λ _. ⌜ ((p : ℕ) → getD (now (pixels .exit)) p 0 ≡ winner (take count (now (row .entry))) p) × (length (now (pixels .exit)) ≡ 264) ⌝ }
 {
-    let mut i = 0;
-    while i < count {
-        put_sprite(row[i], pixels);
-        i += 1;
+    let mut next = 0;
+    while next < count {
+        put_sprite(row[next], pixels);
+        next += 1;
     }
 }
 
-// The winning sprite pixel of every column of line n, from the choice's list: the first sprites are put first.
+// The winning sprite pixel of every column of line n. The sprites of the choice's list stand in a row of eight, lent to be filled, then to be drawn from.
 pub fn sprite_row(
     control: u8,
     n: u8,

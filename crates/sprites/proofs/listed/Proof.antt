@@ -1,4 +1,3 @@
-use native.Mathlib.Omega.{arith}
 use Rattle.sprites.proofs.Cases.{listed-cases}
 use borrow.Author.Needs.{needs}
 use Rattle.sprites.proofs.listed.Statement.{statement}
