@@ -213,12 +213,21 @@ pub fn put_sprite(s: Sprite, row: &mut [u8])
 }
 
 // The sprite that stands at i in the choice's list, as line n shows it.
-fn listed(control: u8, n: u8, i: usize, left: &[u8], right: &[u8], oam: &[u8], list: &[u8]) -> Sprite
+fn listed(
+    control: u8,
+    n: u8,
+    i: usize,
+    left: &[u8],
+    right: &[u8],
+    oam: &[u8],
+    list: &[u8],
+) -> Sprite
     requires { ⌜ (length (now left) ≡ 4096) × (length (now right) ≡ 4096) × (length (now oam) ≡ 256) × (i < length (now list))
         × (getD (now list) i 0 < 64) × (covers control (now oam) (n - 1) (getD (now list) i 0) ≡ true) ⌝ }
     ensures { λ r. ⌜ r ≡ fetched control (now (left .entry)) (now (right .entry)) (now (oam .entry)) (n - 1) (getD (now (list .entry)) i 0) ⌝ }
 {
-    fetch(control, line_before(n), bits::wide(list[i]), left, right, oam)
+    let sprite = bits::wide(list[i]);
+    fetch(control, line_before(n), sprite, left, right, oam)
 }
 
 // The sprites that line n shows, `count` of them, from the choice's list into the row in OAM order. Places past them stay as they are.

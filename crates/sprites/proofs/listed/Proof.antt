@@ -8,14 +8,14 @@ use Rattle.bits.proofs.wide.Reads as wide-reads
 use Rattle.sprites.proofs.fetch.Reads as fetch-reads
 use Rattle.sprites.proofs.line_before.Reads as line-before-reads
 
-line-before-requires : tie.Need-line-before-requires
-line-before-requires c κs = search needs
-
 shared-slice-read-wide : tie.Need-shared-slice-read-wide
 shared-slice-read-wide c = search needs
 
 wide-requires : tie.Need-wide-requires
 wide-requires c κs = search needs
+
+line-before-requires : tie.Need-line-before-requires
+line-before-requires c κs = search needs
 
 fetch-requires : tie.Need-fetch-requires
 fetch-requires c κs = search (listed-cases, needs)
@@ -26,4 +26,4 @@ returns c = search listed-cases
 pub listed-spec : {M : Type 1} → statement M
 listed-spec =
     tie.close
-    (tie.spec line-before-requires shared-slice-read-wide wide-requires fetch-requires returns)
+    (tie.spec shared-slice-read-wide wide-requires line-before-requires fetch-requires returns)

@@ -173,9 +173,16 @@ module _ {M : Type 1} (𝓤 : URA M) (H : Heap 𝓤) (A : Atoms 𝓤) (W : Given
   filled l δ = (rows l δ ys, (c, (n, (count, (left, (right, (oam, (list, tt))))))))
 
   abbrev to-fill : ℕ → ℕ → GName → Fill 𝓤 H A at-mem run .Ghost
-  to-fill l α δ =
-      (((α ∷ [], (κ₀, (κ₁, (κ₂, (κ₃, tt))))), (fullShare, (q₀, (q₁, (q₂, (q₃, tt))))), tt, filled l δ,
-      (row-val l, (vint w8 c ∷ [], (vint w8 n ∷ [], (vint w64 count ∷ [], (slice-vals left, (slice-vals right, (slice-vals oam, (slice-vals list, tt))))))))), tt)
+  to-fill l α δ = (
+    (
+      (α ∷ [], (κ₀, (κ₁, (κ₂, (κ₃, tt))))),
+      (fullShare, (q₀, (q₁, (q₂, (q₃, tt))))),
+      tt,
+      filled l δ,
+      (row-val l, (vint w8 c ∷ [], (vint w8 n ∷ [], (vint w64 count ∷ [], (slice-vals left, (slice-vals right, (slice-vals oam, (slice-vals list, tt)))))))),
+    ),
+    tt,
+  )
 
   goes-fill : (l α : ℕ) (δ : GName) → ent 𝓤 (⋆ 𝓤 H A ((‵ (flft (α ∷ []) fullShare) ⊛ ‵ Tokens) ∷ ‵ (MutSlice (named 0) (α ∷ []) R .own (rows l δ ys) (row-val l)) ∷ ‵ Slices ∷ [])) (Fill 𝓤 H A at-mem run .pre (to-fill l α δ))
   goes-fill l α δ =
