@@ -149,6 +149,15 @@ pub fetch-1 : (c : ℕ) (left right o : List ℕ) (n i at a b : ℕ) (second : B
 unfolding fetched
 fetch-1 c left right o n i at a b second s e f g h z = z ∙ rw (g, h, e, f)
 
+module _ (c n m i k : ℕ) (o list : List ℕ) (d : m ≡ n - 1) (e : k ≡ getD list i 0) where
+  pub listed-1 : covers c o (n - 1) (getD list i 0) ≡ true → covers c o m k ≡ true
+  listed-1 h = rw (d, e) h
+
+  pub listed-2 : (left right : List ℕ) (s : Sprite) → s ≡ fetched c left right o m k → s ≡ fetched c left right o (n - 1) (getD list i 0)
+  listed-2 left right s z = z ∙ rw (d, e)
+
+pub ruleset listed-cases = (listed-1, listed-2)
+
 pub put-1 : (s : Sprite) (at n : ℕ) (row row′ : List ℕ) → length row ≡ 264 → at ≡ s .x → at < 256
     → n ≡ pack (λ (j : ℕ). numberOf (4 + s .attribute % 4 + s .attribute / 32 % 2 * 8) (colourOf (s .low) (s .high) (cond (bit 64 (s .attribute)) j (7 - j)))) 8
     → row′ ≡ overTab (byteOf n) at 8 row → (p : ℕ) → getD row′ p 0 ≡ cond (eqb (getD row p 0) 0) (shade s p) (getD row p 0)

@@ -1,19 +1,19 @@
--- Sprites put one after the other: the first opaque pixel of each column stays.
-use Prim.Native.Nat.{ℕ, zero, suc, _+_, _-_, _<_, _≤_}
+-- The sprites that a line shows, in the choice's list and in the row; put one after the other, the first opaque pixel of each column stays.
+use Prim.Native.Nat.{ℕ, suc, _-_, _<_, _≤_}
 use mathlib.Core.Path.{_≡_, refl, ap, sym, _∙_}
 use mathlib.Core.Bool.{Bool, true, false, cond, and-false}
 use mathlib.Core.Logic.{⊎-elim}
-use mathlib.Core.List.{List, [], _∷_, _++_, map, map-append}
+use mathlib.Core.List.{List, [], _∷_, _++_, map}
 use native.Mathlib.Omega.{arith}
-use native.Mathlib.Numerals.{add-one}
 use borrow.Author.Tests.{ne-eqb, lt-ltb}
 use lib.Dec.{eqb, ltb}
 use lib.ListN.{length, getD, take}
-use lib.Seq.{take-suc, take-all, getD-take, length-take-le}
+use lib.Seq.{take-all, getD-take, length-take-le}
 use Rattle.model.specs.declared.Sprite.{Sprite}
 use Rattle.model.specs.Sprites.{covers, placesOf, countOf, fetched, chosen, shade, winner, spriteOn, spriteZeroOn}
 use Rattle.model.proofs.Scroll.{lt-or-ge}
 use Rattle.pixels.proofs.Over.{over-none}
+use Rattle.sprites.specs.Row.{shownOn}
 use Rattle.sprites.proofs.Places.{places-at, length-places, count-first}
 
 -- the winner stays under one sprite more
@@ -21,7 +21,7 @@ kept : (o v : ℕ) (b : Bool) → eqb o 0 ≡ b → (w r : ℕ) → r ≡ cond (
 kept o v true e w r h = h
 kept o v false e w r h = rw e
 
-winner-more : (l : List Sprite) (s : Sprite) (p : ℕ) → winner (l ++ (s ∷ [])) p ≡ cond (eqb (winner l p) 0) (shade s p) (winner l p)
+pub winner-more : (l : List Sprite) (s : Sprite) (p : ℕ) → winner (l ++ (s ∷ [])) p ≡ cond (eqb (winner l p) 0) (shade s p) (winner l p)
 unfolding winner
 winner-more [] s p = over-none (shade s p)
 winner-more (t ∷ l) s p = kept (shade t p) (shade s p) (eqb (shade t p) 0) refl (winner l p) (winner (l ++ (s ∷ [])) p) (winner-more l s p)
@@ -32,6 +32,15 @@ none-taken (k ∷ l) e = absurd (no (ap length e))
   where
     no : suc (length (take 7 l)) ≡ 0 → ⊥
     no e = omega arith
+
+-- the winner of the sprites that a line shows
+pub winner-shown : (c n : ℕ) (left right o : List ℕ) (p : ℕ) → winner (shownOn c left right o n) p ≡ spriteOn c left right o n p
+unfolding spriteOn shownOn winner
+winner-shown c n left right o p = by-test (eqb n 0)
+  where
+    by-test : (b : Bool) → winner (cond b [] (chosen c left right o (n - 1))) p ≡ cond b 0 (winner (chosen c left right o (n - 1)) p)
+    by-test true = refl
+    by-test false = refl
 
 -- ---- the list that the choice leaves
 module _ (c n count : ℕ) (o list : List ℕ) (few : count ≤ 8) (long : length list ≡ 65) (e : take count list ≡ cond (eqb n 0) [] (take 8 (placesOf (covers c o (n - 1)) 64))) where
@@ -45,8 +54,8 @@ module _ (c n count : ℕ) (o list : List ℕ) (few : count ≤ 8) (long : lengt
   some : (j : ℕ) → j < count → take count list ≡ take 8 (placesOf (covers c o (n - 1)) 64)
   some j lt = e ∙ rw (ne-eqb n 0 (λ z. omega (arith, none z)))
 
-  at : (j : ℕ) → j < count → (getD list j 0 < 64) × (covers c o (n - 1) (getD list j 0) ≡ true)
-  at j lt =
+  pub listed-at : (j : ℕ) → j < count → (getD list j 0 < 64) × (covers c o (n - 1) (getD list j 0) ≡ true)
+  listed-at j lt =
       let P : List ℕ = placesOf (covers c o (n - 1)) 64 in
       let g : getD list j 0 ≡ getD P j 0 =
       sym (getD-take count list j 0 lt) ∙ ap (λ (l : List ℕ). getD l j 0) (some j lt) ∙ getD-take 8 P j 0 (omega arith) in
@@ -57,26 +66,20 @@ module _ (c n count : ℕ) (o list : List ℕ) (few : count ≤ 8) (long : lengt
       (lt-or-ge j (length P)) in
       rw g (places-at (covers c o (n - 1)) 64 j w)
 
-  pub listed-small : (j k : ℕ) → j < count → k ≡ getD list j 0 → k < 64
-  listed-small j k lt z = rw z (at j lt .0)
-
-  pub listed-covers : (j k m : ℕ) → j < count → k ≡ getD list j 0 → m ≡ n - 1 → covers c o m k ≡ true
-  listed-covers j k m lt z d = rw (z, d) (at j lt .1)
-
   -- it has the line's sprites
-  winner-listed : (left right : List ℕ) (p : ℕ) → winner (map (fetched c left right o (n - 1)) (take count list)) p ≡ spriteOn c left right o n p
-  unfolding spriteOn chosen winner
-  winner-listed left right p = rw e (by-test (eqb n 0))
+  pub shown-listed : (left right : List ℕ) → map (fetched c left right o (n - 1)) (take count list) ≡ shownOn c left right o n
+  unfolding shownOn chosen
+  shown-listed left right = rw e (by-test (eqb n 0))
     where
-      by-test : (b : Bool) → winner (map (fetched c left right o (n - 1)) (cond b [] (take 8 (placesOf (covers c o (n - 1)) 64)))) p
-          ≡ cond b 0 (winner (map (fetched c left right o (n - 1)) (take 8 (placesOf (covers c o (n - 1)) 64))) p)
+      by-test : (b : Bool) → map (fetched c left right o (n - 1)) (cond b [] (take 8 (placesOf (covers c o (n - 1)) 64)))
+          ≡ cond b [] (map (fetched c left right o (n - 1)) (take 8 (placesOf (covers c o (n - 1)) 64)))
       by-test true = refl
       by-test false = refl
 
   -- where it is empty no sprite is drawn, nor is sprite 0
   pub none-on : count ≡ 0 → (left right : List ℕ) (p : ℕ) → spriteOn c left right o n p ≡ 0
   unfolding winner
-  none-on z left right p = sym (winner-listed left right p) ∙ rw z
+  none-on z left right p = sym (winner-shown c n left right o p) ∙ rw (← shown-listed left right, z)
 
   pub none-zero : count ≡ 0 → (left right : List ℕ) (p : ℕ) → spriteZeroOn c left right o n p ≡ 0
   unfolding spriteZeroOn
@@ -89,36 +92,6 @@ module _ (c n count : ℕ) (o list : List ℕ) (few : count ≤ 8) (long : lengt
       rw (count-first (covers c o (n - 1)) 63 k, and-false (ltb 0 n)))
       (λ (none : n ≤ 0). let d : n ≡ 0 = omega arith in rw d)
       (lt-or-ge 0 n)
-
--- ---- the loop over the list: its first i sprites, as line m + 1 shows them, are put
-pub record Won (c m count : ℕ) (left right o list row : List ℕ) (i : ℕ) : Type 0 where
-  pub room : i ≤ count
-  pub long : length row ≡ 264
-  pub won : (p : ℕ) → getD row p 0 ≡ winner (map (fetched c left right o m) (take i list)) p
-
-pub won-start : (c m count : ℕ) (left right o list row : List ℕ) → length row ≡ 264 → ((p : ℕ) → getD row p 0 ≡ 0) → Won c m count left right o list row 0
-unfolding winner
-won-start c m count left right o list row h e = record { room = omega arith; long = h; won = e }
-
-module _ (c m count : ℕ) (left right o list row : List ℕ) (i : ℕ) (w : Won c m count left right o list row i) (few : count ≤ 8) (long : length list ≡ 65) where
-  pub won-more : (k : ℕ) (s : Sprite) (row′ : List ℕ) → i < count → k ≡ getD list i 0 → s ≡ fetched c left right o m k → length row′ ≡ 264
-      → ((p : ℕ) → getD row′ p 0 ≡ cond (eqb (getD row p 0) 0) (shade s p) (getD row p 0)) → Won c m count left right o list row′ (i + 1)
-  won-more k s row′ lt z f h e =
-      let t : take (i + 1) list ≡ take i list ++ (k ∷ []) = rw (add-one i, z) (take-suc list i 0 (omega arith)) in
-      record {
-        room = omega arith;
-        long = h;
-        won = λ p. rw (e p, w .won p, f, t, map-append (fetched c left right o m) (take i list) (k ∷ [])) (sym (winner-more (map (fetched c left right o m) (take i list)) (fetched c left right o m k) p));
-      }
-
-  pub won-done : (n : ℕ) → count ≤ i → m ≡ n - 1 → take count list ≡ cond (eqb n 0) [] (take 8 (placesOf (covers c o (n - 1)) 64)) → (p : ℕ) → getD row p 0 ≡ spriteOn c left right o n p
-  won-done n ge d e p =
-      let z : i ≡ count = omega (arith, w .room) in
-      rw (z, d) at (w .won p) ∙ winner-listed c n count o list few long e left right p
-
-pub ruleset won-loop = (won-start, won-more, won-done)
-
-pub ruleset listed-cases = (listed-small, listed-covers)
 
 -- ---- sprite 0
 module _ (c n : ℕ) (left right o : List ℕ) where

@@ -1,18 +1,19 @@
 // The sprites of a line: which it shows, and their pixels. Inner functions, not public calls.
 // choose: the eight that a line shows, and overflow. Within: height, distance, distances, near_one, count, list_places, at_most_eight.
 // fetch: a sprite's two pattern bytes on a line. Within: row_of, second_table, tile_of, pattern_at, pattern_byte.
-// put_sprite, sprite_row, sprite_zero_row: a sprite over a row, the winning pixel of every column, sprite 0. Within: covering, line_before.
-// A row has 264 columns, so that a sprite at X = 255 has room; a line shows the first 256.
+// put_sprite, sprite_row, sprite_zero_row: a sprite over pixels, the winning pixel of every column, sprite 0. Within: covering, line_before,
+// listed, fill_row, draw_row. Pixels have 264 columns, so that a sprite at X = 255 has room; a line shows the first 256.
 ghost use mathlib.Core.Path.{_≡_};
 ghost use mathlib.Core.Bool.{cond, true};
-ghost use mathlib.Core.List.{[]};
+ghost use mathlib.Core.List.{[], _++_};
 ghost use Prim.Native.Nat.{ℕ, _+_, _-_, _<_, _≤_};
 ghost use lib.Dec.{eqb, ltb};
-ghost use lib.ListN.{length, getD, take};
+ghost use lib.ListN.{length, getD, take, drop};
 ghost use Rattle.model.specs.Line.{tab};
 ghost use Rattle.model.specs.Address.{tableOf};
 ghost use Rattle.model.specs.Sprites.{height as heightOf, covers, placesOf, countOf, overflows};
-ghost use Rattle.model.specs.Sprites.{rowOf, secondTable, tileOf, patternAt, fetched, shade, spriteOn, spriteZeroOn};
+ghost use Rattle.model.specs.Sprites.{rowOf, secondTable, tileOf, patternAt, fetched, shade, winner, spriteOn, spriteZeroOn};
+ghost use Rattle.sprites.specs.Row.{shownOn};
 ghost use Rattle.sprites.specs.Distance.{distanceOf, distanceAt, isFrom, near};
 use model::Sprite;
 
@@ -211,7 +212,59 @@ pub fn put_sprite(s: Sprite, row: &mut [u8])
     pixels::put_over(row, bits::wide(s.x), pixels::sprite_bytes(s));
 }
 
-// The winning sprite pixel of every column of line n, from the choice's list: the first sprites are put first.
+// The sprite that stands at i in the choice's list, as line n shows it.
+fn listed(
+    control: u8,
+    n: u8,
+    i: usize,
+    left: &[u8],
+    right: &[u8],
+    oam: &[u8],
+    list: &[u8],
+) -> Sprite
+    requires { ⌜ (length (now left) ≡ 4096) × (length (now right) ≡ 4096) × (length (now oam) ≡ 256) × (i < length (now list))
+        × (getD (now list) i 0 < 64) × (covers control (now oam) (n - 1) (getD (now list) i 0) ≡ true) ⌝ }
+    ensures { λ r. ⌜ r ≡ fetched control (now (left .entry)) (now (right .entry)) (now (oam .entry)) (n - 1) (getD (now (list .entry)) i 0) ⌝ }
+{
+    let sprite = bits::wide(list[i]);
+    fetch(control, line_before(n), sprite, left, right, oam)
+}
+
+// The sprites that line n shows, `count` of them, from the choice's list into the row in OAM order. Places past them stay as they are.
+fn fill_row(
+    row: &mut [Sprite],
+    control: u8,
+    n: u8,
+    count: usize,
+    left: &[u8],
+    right: &[u8],
+    oam: &[u8],
+    list: &[u8],
+)
+    requires { ⌜ (length (now row) ≡ 8) × (length (now left) ≡ 4096) × (length (now right) ≡ 4096) × (length (now oam) ≡ 256) × (length (now list) ≡ 65)
+        × (count ≤ 8) × (take count (now list) ≡ cond (eqb n 0) [] (take 8 (placesOf (covers control (now oam) (n - 1)) 64))) ⌝ }
+    ensures { λ _. ⌜ now (row .exit) ≡ shownOn control (now (left .entry)) (now (right .entry)) (now (oam .entry)) n ++ drop count (now (row .entry)) ⌝ }
+{
+    let mut place = 0;
+    while place < count {
+        row[place] = listed(control, n, place, left, right, oam, list);
+        place += 1;
+    }
+}
+
+// The winning pixel of every column, from the first `count` sprites of the row: the first are put first.
+fn draw_row(row: &[Sprite], count: usize, pixels: &mut [u8])
+    requires { ⌜ (count ≤ length (now row)) × (length (now pixels) ≡ 264) × ((p : ℕ) → getD (now pixels) p 0 ≡ 0) ⌝ }
+    ensures { λ _. ⌜ ((p : ℕ) → getD (now (pixels .exit)) p 0 ≡ winner (take count (now (row .entry))) p) × (length (now (pixels .exit)) ≡ 264) ⌝ }
+{
+    let mut next = 0;
+    while next < count {
+        put_sprite(row[next], pixels);
+        next += 1;
+    }
+}
+
+// The winning sprite pixel of every column of line n. The sprites of the choice's list stand in a row of eight, lent to be filled, then to be drawn from.
 pub fn sprite_row(
     control: u8,
     n: u8,
@@ -220,23 +273,22 @@ pub fn sprite_row(
     right: &[u8],
     oam: &[u8],
     list: &[u8],
-    row: &mut [u8],
+    pixels: &mut [u8],
 )
-    requires { ⌜ (length (now left) ≡ 4096) × (length (now right) ≡ 4096) × (length (now oam) ≡ 256) × (length (now list) ≡ 65) × (length (now row) ≡ 264) ⌝ }
-    requires { ⌜ ((p : ℕ) → getD (now row) p 0 ≡ 0) × (count ≤ 8)
+    requires { ⌜ (length (now left) ≡ 4096) × (length (now right) ≡ 4096) × (length (now oam) ≡ 256) × (length (now list) ≡ 65) × (length (now pixels) ≡ 264) ⌝ }
+    requires { ⌜ ((p : ℕ) → getD (now pixels) p 0 ≡ 0) × (count ≤ 8)
         × (take count (now list) ≡ cond (eqb n 0) [] (take 8 (placesOf (covers control (now oam) (n - 1)) 64))) ⌝ }
-    ensures { λ _. ⌜ ((p : ℕ) → getD (now (row .exit)) p 0 ≡ spriteOn control (now (left .entry)) (now (right .entry)) (now (oam .entry)) n p)
-        × (length (now (row .exit)) ≡ 264) ⌝ }
+    ensures { λ _. ⌜ ((p : ℕ) → getD (now (pixels .exit)) p 0 ≡ spriteOn control (now (left .entry)) (now (right .entry)) (now (oam .entry)) n p)
+        × (length (now (pixels .exit)) ≡ 264) ⌝ }
 {
-    let above = line_before(n);
-    let mut i = 0;
-    while i < count {
-        put_sprite(
-            fetch(control, above, bits::wide(list[i]), left, right, oam),
-            row,
-        );
-        i += 1;
-    }
+    let mut row = [Sprite {
+        low: 0,
+        high: 0,
+        attribute: 0,
+        x: 0,
+    }; 8];
+    fill_row(&mut row, control, n, count, left, right, oam, list);
+    draw_row(&row, count, pixels);
 }
 
 // Sprite 0 by itself on line n.
