@@ -142,7 +142,7 @@ module _ (log out₀ : List ℕ) (s₀ s : State) (out : List ℕ) (at w : ℕ) 
   play-ended k =
       let z : ends (playEntry e s) ≡ true = sym (i .ended) ∙ k in
       let text : playedText (recordsOf log) s₀ ≡ take w out ++ t =
-          y .text ∙ ap (λ (a : List ℕ). take w out ++ a) (front-text ∙ rw z (append-nil t)) in
+      y .text ∙ ap (λ (a : List ℕ). take w out ++ a) (front-text ∙ rw z (append-nil t)) in
       record {
         after = i .after ∙ sym (y .left ∙ front-state ∙ rw z);
         text = stored-at out out′ t w fits (i .text) ∙ rw (text, i .written, rest-same);
@@ -185,7 +185,7 @@ play-done log out₀ s₀ u m out at w x y h k =
 pub written-fits : (log : List ℕ) (s : State) (out : List ℕ) (x : Played) (m : Memory) (out′ : List ℕ) → IsPlay log s out x m out′ → x .written ≤ length out′
 written-fits log s out x m out′ i =
     let e : length out′ ≡ length (playedText (recordsOf log) s) + length (drop (x .written) out) =
-        ap length (i .text) ∙ length-append (playedText (recordsOf log) s) (drop (x .written) out) in
+    ap length (i .text) ∙ length-append (playedText (recordsOf log) s) (drop (x .written) out) in
     omega (arith, e, i .written)
 
 pub ruleset play-cases = (play-start, play-ended, play-more, play-done)
@@ -218,10 +218,10 @@ module _ (l₀ l : List ℕ) (from n i : ℕ) (y : Keeping l₀ l from n i) (h :
       let k : length (take i (drop from l₀)) ≡ i = length-take-le i (drop from l₀) (omega arith) in
       let r : i < length l₀ = omega arith in
       let g : v ≡ getD (drop from l₀) i 0 =
-          e ∙ ap (λ (a : List ℕ). getD a (from + i) 0) (y .moved) ∙ at-shift k ∙ getD-drop i l₀ from 0 ∙ rw (add-comm i from) (sym (getD-drop from l₀ i 0)) in
+      e ∙ ap (λ (a : List ℕ). getD a (from + i) 0) (y .moved) ∙ at-shift k ∙ getD-drop i l₀ from 0 ∙ rw (add-comm i from) (sym (getD-drop from l₀ i 0)) in
       let s : set l i v ≡ take (i + 1) (drop from l₀) ++ drop (i + 1) l₀ =
-          rw (y .moved, g, add-one i, drop-cons l₀ i 0 r, set-at (take i (drop from l₀)) (getD l₀ i 0) (drop (suc i) l₀) (getD (drop from l₀) i 0) i k, take-suc (drop from l₀) i 0 q)
-          (sym (append-snoc (take i (drop from l₀)) (getD (drop from l₀) i 0) (drop (suc i) l₀))) in
+      rw (y .moved, g, add-one i, drop-cons l₀ i 0 r, set-at (take i (drop from l₀)) (getD l₀ i 0) (drop (suc i) l₀) (getD (drop from l₀) i 0) i k, take-suc (drop from l₀) i 0 q)
+      (sym (append-snoc (take i (drop from l₀)) (getD (drop from l₀) i 0) (drop (suc i) l₀))) in
       record { room = omega arith; long = length-set l i v ∙ y .long; moved = s }
     where
       at-shift : length (take i (drop from l₀)) ≡ i → getD (take i (drop from l₀) ++ drop i l₀) (from + i) 0 ≡ getD (drop i l₀) from 0

@@ -39,7 +39,7 @@ module _ (t l : List ℕ) (at : ℕ) (o : List ℕ) (i : ℕ) (m : Putting t l a
   pub put-more : i < length t → Putting t l at (set o (at + i) (getD t i 0)) (i + 1)
   put-more h =
       let e : set o (at + i) (getD t i 0) ≡ sets l at (take (i + 1) t) =
-          rw (m .stored, add-one i, take-suc t i 0 h, sets-append (take i t) (getD t i 0 ∷ []) l at, length-take-le i t (m .room)) in
+      rw (m .stored, add-one i, take-suc t i 0 h, sets-append (take i t) (getD t i 0 ∷ []) l at, length-take-le i t (m .room)) in
       record { room = omega arith; long = ap length e ∙ length-sets l at (take (i + 1) t); stored = e }
 
   pub put-done : length t ≤ i → o ≡ sets l at t

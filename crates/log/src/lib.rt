@@ -12,7 +12,17 @@ ghost use lib.ListN.{length, take, drop};
 ghost use lib.Seq.{sets};
 ghost use Rattle.model.specs.Unit.{state};
 ghost use Rattle.model.specs.Log.{
-    whole as wholeRecord, recordsOf, recordEntry, entryOf, playEntry, hexDigit, decimal, readText, runText, refusedText, entryText
+  whole as wholeRecord,
+  recordsOf,
+  recordEntry,
+  entryOf,
+  playEntry,
+  hexDigit,
+  decimal,
+  readText,
+  runText,
+  refusedText,
+  entryText,
 };
 ghost use Rattle.log.specs.Play.{playMemory, playOutcome, Printable, IsStep, IsPlay, wholeBytes};
 use model::Access;
@@ -312,7 +322,16 @@ pub fn play(
         let s = read_at(log, at);
         let e = s.found;
         let p = play_one(
-            e, n, out, written, left, right, nametables, oam, palette, line,
+            e,
+            n,
+            out,
+            written,
+            left,
+            right,
+            nametables,
+            oam,
+            palette,
+            line,
         );
         if p.ended {
             return p;
