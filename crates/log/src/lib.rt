@@ -1,5 +1,6 @@
 // The log of accesses: records of 4 bytes, their play on a unit and lent memory, and what the player prints of it.
-// For the player and its tests, not public calls of the unit. Reading: Cursor, next, whole_entry, zero_ended.
+// For the player and its tests, not public calls of the unit. Reading: Cursor, next, whole_entry, zero_ended;
+// by a reader, which holds the lent log: Reader, start, moved, read, read_at.
 // Playing: play_entry (one entry), play_one (and its text), play (a whole log), play_block (a block of a longer log), whole, keep.
 // Text: put, hex_digit, put_read, digit, put_decimal, put_run, put_refused, put_text.
 ghost use mathlib.Core.Path.{_≡_};
@@ -102,6 +103,40 @@ pub fn next(c: Cursor, log: &[u8]) -> Step
         found,
         next: Cursor { at: at + 4 },
     }
+}
+
+// A lent log, and a place in it.
+pub struct Reader<'a> {
+    pub log: &'a [u8],
+    pub at: usize,
+}
+
+// A reader at the start of a log.
+pub fn start<'a>(log: &'a [u8]) -> Reader<'a>
+    ensures { λ r. ⌜ (r .log ≡ log .entry) × (r .at ≡ 0) ⌝ }
+{
+    Reader { log, at: 0 }
+}
+
+// The reader moved to another place of its log.
+pub fn moved<'a>(r: Reader<'a>, at: usize) -> Reader<'a>
+    ensures { λ q. ⌜ (q .log ≡ r .entry .log) × (q .at ≡ at) ⌝ }
+{
+    Reader { log: r.log, at }
+}
+
+// What stands at the reader's place, and the place behind it.
+pub fn read<'a>(r: Reader<'a>) -> Step
+    ensures { λ s. ⌜ (s .found ≡ entryOf (recordsOf (drop (r .entry .at) (now (r .entry .log))))) × (s .next .at ≡ min (r .entry .at + 4) (length (now (r .entry .log)))) ⌝ }
+{
+    next(Cursor { at: r.at }, r.log)
+}
+
+// The same at a place of a log, by a reader: a caller names no reader.
+pub fn read_at(log: &[u8], at: usize) -> Step
+    ensures { λ r. ⌜ (r .found ≡ entryOf (recordsOf (drop at (now (log .entry))))) × (r .next .at ≡ min (at + 4) (length (now (log .entry)))) ⌝ }
+{
+    read(moved(start(log), at))
 }
 
 // Bytes stored in the output from place `at` on; the place behind them.
@@ -284,7 +319,7 @@ pub fn play(
     let mut at = 0;
     let mut written = 0;
     while at < log.len() {
-        let s = next(Cursor { at }, log);
+        let s = read_at(log, at);
         let e = s.found;
         let p = play_one(
             e,

@@ -10,7 +10,7 @@ use Rattle.log.proofs.play.Statement.{statement}
 use Rattle.log.proofs.play.Tie as tie
 use Rattle.log.proofs.play.Reads as reads
 use Rattle.log.proofs.play.Lts as lts
-use Rattle.log.proofs.next.Reads as next-reads
+use Rattle.log.proofs.read_at.Reads as read-at-reads
 use Rattle.log.proofs.play_one.Reads as play-one-reads
 
 abbrev Inv-loop : tie.InvT-loop
@@ -27,8 +27,8 @@ loop-holds : tie.Need-loop-holds Inv-loop μ-loop
 loop-holds c = (search play-cases, search needs)
 
 -- src/lib.rt:286:13
-next-requires : tie.Need-next-requires Inv-loop μ-loop
-next-requires c κs = search needs
+read-at-requires : tie.Need-read-at-requires Inv-loop μ-loop
+read-at-requires c κs = search needs
 
 -- src/lib.rt:288:13
 play-one-requires : tie.Need-play-one-requires Inv-loop μ-loop
@@ -73,7 +73,7 @@ loop-less c = search needs
 -- src/lib.rt:285:5
 loop-again : tie.Need-loop-again Inv-loop μ-loop
 loop-again c = (
-  play-more _ _ _ _ _ _ _ (c .before .before .before .before .before .before .before .before .before .before .before .before .before .before .before .before .before .before .before .before .before .before .before .before .before .before .before .loop .inv .0) (c .before .before .before .before .before .before .before .before .before .before .before .before .before .before .before .before .before .before .before .before .before .before .before .before .before .before .loop-test .taken) _ _ _ _ (c .before .before .before .before .before .before .before .before .before .before .before .before .before .before .before .before .before .play-one .ensures) (c .before .before .before .before .before .before .before .before .before .before .before .before .before .before .before .before .before .before .before .before .before .before .before .before .before .next .ensures .0) _ _ (c .before .before .if1 .left) (c .before .before .before .before .before .before .before .before .before .before .before .before .before .before .before .before .before .before .before .before .before .before .before .before .before .next .ensures .1) refl,
+  play-more _ _ _ _ _ _ _ (c .before .before .before .before .before .before .before .before .before .before .before .before .before .before .before .before .before .before .before .before .before .before .before .before .before .before .before .loop .inv .0) (c .before .before .before .before .before .before .before .before .before .before .before .before .before .before .before .before .before .before .before .before .before .before .before .before .before .before .loop-test .taken) _ _ _ _ (c .before .before .before .before .before .before .before .before .before .before .before .before .before .before .before .before .before .play-one .ensures) (c .before .before .before .before .before .before .before .before .before .before .before .before .before .before .before .before .before .before .before .before .before .before .before .before .before .read-at .ensures .0) _ _ (c .before .before .if1 .left) (c .before .before .before .before .before .before .before .before .before .before .before .before .before .before .before .before .before .before .before .before .before .before .before .before .before .read-at .ensures .1) refl,
   record {
     cells = record {
       left = c .before .before .before .before .before .before .before .before .before .before .before .before .before .before .left .given ∙ c .before .before .before .before .before .before .before .before .before .before .before .before .before .before .before .before .before .before .before .before .before .before .before .before .before .before .before .loop .inv .1 .cells .left;
@@ -125,7 +125,7 @@ play-spec =
     Inv-loop
     μ-loop
     loop-holds
-    next-requires
+    read-at-requires
     play-one-requires
     same-length
     same-length-2
