@@ -15,8 +15,7 @@ fail() {
 
 # bytes HEX..: the bytes of a log
 bytes() {
-    local hex=${*// /}
-    printf '%b' "$(sed 's/../\\x&/g' <<<"$hex")"
+    printf '%b' "$(printf '%s' "$@" | sed 's/../\\x&/g')"
 }
 
 # repeated N HEX..: the first N bytes of a log that repeats these records
