@@ -1,12 +1,18 @@
 use Rattle.registers.proofs.Cases.{rendering-1}
+use borrow.Author.Needs.{needs}
 use Rattle.registers.proofs.rendering.Statement.{statement}
 use Rattle.registers.proofs.rendering.Tie as tie
 use Rattle.registers.proofs.rendering.Reads as reads
 use Rattle.registers.proofs.rendering.Lts as lts
+use Rattle.bits.proofs.field.Reads as field-reads
 
--- src/lib.rt:34:1
+-- src/lib.rt:40:5
+field-requires : tie.Need-field-requires
+field-requires c κs = search needs
+
+-- src/lib.rt:37:1
 returns : tie.Need-returns
-returns c = rendering-1 _
+returns c = search rendering-1
 
 pub rendering-spec : {M : Type 1} → statement M
-rendering-spec = tie.close (tie.spec returns)
+rendering-spec = tie.close (tie.spec field-requires returns)
