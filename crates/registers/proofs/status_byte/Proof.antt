@@ -15,7 +15,7 @@ add-result c = search needs
 
 -- src/lib.rt:260:1
 returns : tie.Need-returns
-returns c = status-1 _
+returns c = search status-1
 
 pub status-byte-spec : {M : Type 1} → statement M
 status-byte-spec = tie.close (tie.spec mul-result add-result returns)

@@ -1,0 +1,247 @@
+-- The play of one entry, of a log, and of a block of one, for `search`.
+use Prim.Native.Nat.{ℕ, zero, suc, _+_, _-_, _*_, _/_, _<_, _≤_, min}
+use mathlib.Core.Path.{_≡_, refl, sym, ap, _∙_}
+use mathlib.Core.Bool.{Bool, true, false, cond, _||_}
+use mathlib.Core.List.{List, [], _∷_, _++_, append-assoc, append-nil}
+use mathlib.Core.Logic.{⊎-elim}
+use native.Mathlib.Omega.{arith}
+use native.Mathlib.Numerals.{add-one}
+use native.Mathlib.Nat.{add-comm}
+use lib.Dec.{eqb}
+use lib.ListN.{length, getD, set, take, drop, length-set, length-append, length-drop, take-append-drop, drop-of-length-le}
+use lib.Seq.{sets, length-sets, sets-eq, length-take-le, take-at, drop-at, set-at, drop-cons, take-suc, drop-length, drop-drop, getD-drop, getD-append-add, append-snoc}
+use Rattle.model.specs.declared.Ppu.{Ppu}
+use Rattle.model.specs.declared.Access.{Access}
+use Rattle.model.specs.declared.Entry.{Entry}
+use Rattle.model.specs.declared.Entry.the-variants.{Read, Write, Run, End, Refused}
+use Rattle.model.specs.Unit.{Memory, accessMemory, lineMemory, State, state}
+use Rattle.model.specs.Calls.{own, readCall, writeCall, runCall, Outcome, outcome, outcomeOn, access, doneAnswer, refusedAccess, accessOutcome, lineOutcome, onLent}
+use Rattle.model.specs.Log.{recordsOf, entryOf, playEntry, entryText, ends, playedText, playedState, playEnds}
+use Rattle.model.proofs.Scroll.{lt-or-ge}
+use Rattle.model.proofs.Calls.{restores, frame}
+use Rattle.model.proofs.Log.{run-line, text-short, text-first, state-first, ends-first}
+use Rattle.log.specs.declared.Played.{Played}
+use Rattle.log.specs.Play.{playMemory, playOutcome, Printable, IsStep, IsPlay, wholeBytes}
+
+-- ONE ENTRY: what its call is lent, carried over to all the memory
+module _ (e : Entry) (u : Ppu) (x : Access) (l r n o p b : List ℕ) where
+  pub plays-1 : (a : ℕ) → e ≡ Read a → accessOutcome x l r n o p ≡ onLent (readCall own a) (state u (accessMemory l r n o p))
+      → playOutcome x l r n o p b ≡ playEntry e (state u (playMemory l r n o p b))
+  unfolding playEntry
+  plays-1 a k h =
+      ap (restores (readCall own a) (playMemory l r n o p b)) h ∙ sym (frame (readCall own a) u (playMemory l r n o p b)) ∙ rw k
+
+  pub plays-2 : (a c : ℕ) (l′ r′ n′ o′ p′ : List ℕ) → e ≡ Write a c → accessOutcome x l′ r′ n′ o′ p′ ≡ onLent (writeCall own a c) (state u (accessMemory l r n o p))
+      → playOutcome x l′ r′ n′ o′ p′ b ≡ playEntry e (state u (playMemory l r n o p b))
+  unfolding playEntry
+  plays-2 a c l′ r′ n′ o′ p′ k h =
+      ap (restores (writeCall own a c) (playMemory l r n o p b)) h ∙ sym (frame (writeCall own a c) u (playMemory l r n o p b)) ∙ rw k
+
+  pub plays-3 : (a : ℕ) (b′ : List ℕ) → e ≡ Run a → lineOutcome x l r n o b′ ≡ onLent (runCall own 0 a) (state u (lineMemory l r n o b))
+      → playOutcome x l r n o p b′ ≡ playEntry e (state u (playMemory l r n o p b))
+  unfolding playEntry
+  plays-3 a b′ k h =
+      ap (restores (runCall own 0 a) (playMemory l r n o p b)) h ∙ sym (frame (runCall own 0 a) u (playMemory l r n o p b)) ∙ rw k
+
+  pub plays-4 : e ≡ End → x ≡ access (doneAnswer 0 0 u) u → playOutcome x l r n o p b ≡ playEntry e (state u (playMemory l r n o p b))
+  unfolding playEntry
+  plays-4 k h = rw (h, k)
+
+  pub plays-5 : (a : ℕ) → e ≡ Refused a → x ≡ refusedAccess a u → playOutcome x l r n o p b ≡ playEntry e (state u (playMemory l r n o p b))
+  unfolding playEntry
+  plays-5 a k h = rw (h, k)
+
+pub ruleset plays-cases = (plays-1, plays-2, plays-3, plays-4, plays-5)
+
+-- its text can be printed
+pub printable : (e : Entry) (s : State) (x : Access) (l r n o p b : List ℕ) → playOutcome x l r n o p b ≡ playEntry e s → Printable e x
+unfolding Printable
+printable (Read a) s x l r n o p b h = tt
+printable (Write a c) s x l r n o p b h = tt
+printable (Run k) s x l r n o p b h = λ z.
+    let f : x .unit .scanline ≡ playEntry (Run k) s .after .unit .scanline = ap (λ (y : Outcome). y .after .unit .scanline) h in
+    let g = run-line k s (ap (λ (y : Outcome). y .answer .number) (sym h) ∙ z) in
+    omega arith
+printable End s x l r n o p b h = tt
+printable (Refused k) s x l r n o p b h = tt
+
+pub step-done : (e : Entry) (s : State) (x : Access) (m : Memory) (out out′ : List ℕ) (at w : ℕ) (y : Played) → outcomeOn x m ≡ playEntry e s
+    → out′ ≡ sets out at (entryText e (x .answer) (x .unit .scanline)) → w ≡ at + length (entryText e (x .answer) (x .unit .scanline))
+    → y ≡ record { unit = x .unit; written = w; ended = eqb (x .answer .number) 5 } → IsStep e s out at y m out′
+unfolding ends
+step-done e s x m out out′ at w y h f g k =
+    rw k
+    (record {
+      after = ap (λ (o : Outcome). o .after) h;
+      text = f ∙ ap (λ (o : Outcome). sets out at (entryText e (o .answer) (o .after .unit .scanline))) h;
+      written = g ∙ ap (λ (o : Outcome). at + length (entryText e (o .answer) (o .after .unit .scanline))) h;
+      ended = ap (λ (o : Outcome). eqb (o .answer .number) 5) h;
+    })
+
+-- A LOG: played up to a place
+pub record Playing (log out₀ : List ℕ) (s₀ s : State) (out : List ℕ) (at w : ℕ) : Type 0 where
+  pub place : at ≤ length log
+  pub long : length out ≡ length out₀
+  pub room : w + 15 * ((length log - at + 3) / 4) ≤ length out₀
+  pub text : playedText (recordsOf log) s₀ ≡ take w out ++ playedText (recordsOf (drop at log)) s
+  pub rest : drop w out ≡ drop w out₀
+  pub left : playedState (recordsOf log) s₀ ≡ playedState (recordsOf (drop at log)) s
+  pub goes : playEnds (recordsOf log) s₀ ≡ playEnds (recordsOf (drop at log)) s
+
+pub play-start : (log out : List ℕ) (s : State) → 15 * ((length log + 3) / 4) ≤ length out → Playing log out s s out 0 0
+play-start log out s h = record { place = omega arith; long = refl; room = omega arith; text = refl; rest = refl; left = refl; goes = refl }
+
+-- a text stored behind the first w bytes
+module _ (out out′ t : List ℕ) (w : ℕ) (h : w + length t ≤ length out) (e : out′ ≡ sets out w t) where
+  stored-at : out′ ≡ (take w out ++ t) ++ drop (w + length t) out
+  stored-at = e ∙ sets-eq t out w h
+
+  head-long : length (take w out ++ t) ≡ w + length t
+  head-long = length-append (take w out) t ∙ ap (λ (k : ℕ). k + length t) (length-take-le w out (omega arith))
+
+  stored-take : take (w + length t) out′ ≡ take w out ++ t
+  stored-take = ap (take (w + length t)) stored-at ∙ take-at (take w out ++ t) (drop (w + length t) out) (w + length t) head-long
+
+  stored-drop : drop (w + length t) out′ ≡ drop (w + length t) out
+  stored-drop = ap (drop (w + length t)) stored-at ∙ drop-at (take w out ++ t) (drop (w + length t) out) (w + length t) head-long
+
+drop-more : (w k : ℕ) (a b : List ℕ) → drop w a ≡ drop w b → drop (w + k) a ≡ drop (w + k) b
+drop-more w k a b e = sym (drop-drop k w a) ∙ ap (drop k) e ∙ drop-drop k w b
+
+drop-least : (k : ℕ) (l : List ℕ) → drop (min k (length l)) l ≡ drop k l
+drop-least k l =
+    ⊎-elim
+    (λ (p : k < length l). let e : min k (length l) ≡ k = omega arith in rw e)
+    (λ (p : length l ≤ k). let e : min k (length l) ≡ length l = omega arith in rw e (drop-length l ∙ sym (drop-of-length-le l {i = k} p)))
+    (lt-or-ge k (length l))
+
+drop-length-pos : (at : ℕ) (l : List ℕ) → at < length l → 0 < length (drop at l)
+drop-length-pos at l h = simp length-drop (omega arith)
+
+module _ (log out₀ : List ℕ) (s₀ s : State) (out : List ℕ) (at w : ℕ) (y : Playing log out₀ s₀ s out at w) (h : at < length log)
+    (e : Entry) (x : Played) (m : Memory) (out′ : List ℕ) (i : IsStep e s out w x m out′) (f : e ≡ entryOf (recordsOf (drop at log))) where
+  abbrev t : List ℕ
+  t = entryText e (playEntry e s .answer) (playEntry e s .after .unit .scanline)
+
+  fits : w + length t ≤ length out
+  fits = omega (arith, y .room, y .long, text-short e (playEntry e s .answer) (playEntry e s .after .unit .scanline))
+
+  front-text : playedText (recordsOf (drop at log)) s ≡ t ++ cond (ends (playEntry e s)) [] (playedText (recordsOf (drop 4 (drop at log))) (playEntry e s .after))
+  front-text = rw f (text-first (drop at log) s (drop-length-pos at log h))
+
+  front-state : playedState (recordsOf (drop at log)) s ≡ cond (ends (playEntry e s)) (playEntry e s .after) (playedState (recordsOf (drop 4 (drop at log))) (playEntry e s .after))
+  front-state = rw f (state-first (drop at log) s (drop-length-pos at log h))
+
+  front-ends : playEnds (recordsOf (drop at log)) s ≡ ends (playEntry e s) || playEnds (recordsOf (drop 4 (drop at log))) (playEntry e s .after)
+  front-ends = rw f (ends-first (drop at log) s (drop-length-pos at log h))
+
+  rest-same : drop (w + length t) out ≡ drop (w + length t) out₀
+  rest-same = drop-more w (length t) out out₀ (y .rest)
+
+  pub play-ended : x .ended ≡ true → IsPlay log s₀ out₀ x m out′
+  play-ended k =
+      let z : ends (playEntry e s) ≡ true = sym (i .ended) ∙ k in
+      let text : playedText (recordsOf log) s₀ ≡ take w out ++ t =
+          y .text ∙ ap (λ (a : List ℕ). take w out ++ a) (front-text ∙ rw z (append-nil t)) in
+      record {
+        after = i .after ∙ sym (y .left ∙ front-state ∙ rw z);
+        text = stored-at out out′ t w fits (i .text) ∙ rw (text, i .written, rest-same);
+        written = rw (text, i .written) (sym (head-long out out′ t w fits (i .text)));
+        ended = k ∙ sym (y .goes ∙ front-ends ∙ rw z);
+      }
+
+  pub play-more : (at′ : ℕ) (s′ : State) → x .ended ≡ false → at′ ≡ min (at + 4) (length log) → s′ ≡ state (x .unit) m → Playing log out₀ s₀ s′ out′ at′ (x .written)
+  play-more at′ s′ k g c =
+      let z : ends (playEntry e s) ≡ false = sym (i .ended) ∙ k in
+      let d : drop 4 (drop at log) ≡ drop at′ log = drop-drop 4 at log ∙ sym (drop-least (at + 4) log) ∙ ap (λ (a : ℕ). drop a log) (sym g) in
+      let a : playEntry e s .after ≡ s′ = sym (i .after) ∙ sym c in
+      record {
+        place = omega arith;
+        long = ap length (i .text) ∙ length-sets out w t ∙ y .long;
+        room = omega (arith, y .room, i .written, g, text-short e (playEntry e s .answer) (playEntry e s .after .unit .scanline));
+        text =
+            y .text ∙ ap (λ (b : List ℕ). take w out ++ b) (front-text ∙ rw (z, d, a)) ∙ sym (append-assoc (take w out) t (playedText (recordsOf (drop at′ log)) s′))
+            ∙ rw (i .written, stored-take out out′ t w fits (i .text));
+        rest = rw (i .written) (stored-drop out out′ t w fits (i .text) ∙ rest-same);
+        left = y .left ∙ front-state ∙ rw (z, d, a);
+        goes = y .goes ∙ front-ends ∙ rw (z, d, a);
+      }
+
+pub play-done : (log out₀ : List ℕ) (s₀ : State) (u : Ppu) (m : Memory) (out : List ℕ) (at w : ℕ) (x : Played) → Playing log out₀ s₀ (state u m) out at w → length log ≤ at
+    → x ≡ record { unit = u; written = w; ended = false } → IsPlay log s₀ out₀ x m out
+unfolding recordsOf playedText playedState playEnds
+play-done log out₀ s₀ u m out at w x y h k =
+    let d : drop at log ≡ [] = drop-of-length-le log {i = at} h in
+    let text : playedText (recordsOf log) s₀ ≡ take w out = y .text ∙ rw d (append-nil (take w out)) in
+    rw k
+    (record {
+      after = sym (y .left ∙ rw d);
+      text = rw text (sym (take-append-drop w out) ∙ ap (λ (a : List ℕ). take w out ++ a) (y .rest));
+      written = rw text (sym (length-take-le w out (omega (arith, y .room, y .long))));
+      ended = sym (y .goes ∙ rw d);
+    })
+
+-- what is written stands in the output
+pub written-fits : (log : List ℕ) (s : State) (out : List ℕ) (x : Played) (m : Memory) (out′ : List ℕ) → IsPlay log s out x m out′ → x .written ≤ length out′
+written-fits log s out x m out′ i =
+    let e : length out′ ≡ length (playedText (recordsOf log) s) + length (drop (x .written) out) =
+        ap length (i .text) ∙ length-append (playedText (recordsOf log) s) (drop (x .written) out) in
+    omega (arith, e, i .written)
+
+pub ruleset play-cases = (play-start, play-ended, play-more, play-done)
+
+-- A BLOCK: whole records, and all where the log ends
+module _ (last : Bool) (n r : ℕ) where
+  pub whole-1 : last ≡ true → r ≡ n → r ≡ wholeBytes last n
+  unfolding wholeBytes
+  whole-1 p e = e ∙ rw p
+
+  pub whole-2 : last ≡ false → r ≡ n / 4 * 4 → r ≡ wholeBytes last n
+  unfolding wholeBytes
+  whole-2 p e = e ∙ rw p
+
+pub ruleset whole-cases = (whole-1, whole-2)
+
+-- the first i bytes from a place on are moved to the front
+pub record Keeping (l₀ l : List ℕ) (from n i : ℕ) : Type 0 where
+  pub room : i ≤ n
+  pub long : length l ≡ length l₀
+  pub moved : l ≡ take i (drop from l₀) ++ drop i l₀
+
+pub keep-start : (l : List ℕ) (from n : ℕ) → Keeping l l from n 0
+keep-start l from n = record { room = omega arith; long = refl; moved = refl }
+
+module _ (l₀ l : List ℕ) (from n i : ℕ) (y : Keeping l₀ l from n i) (h : from + n ≤ length l₀) where
+  pub keep-more : (v : ℕ) → i < n → v ≡ getD l (from + i) 0 → Keeping l₀ (set l i v) from n (i + 1)
+  keep-more v p e =
+      let q : i < length (drop from l₀) = simp length-drop (omega arith) in
+      let k : length (take i (drop from l₀)) ≡ i = length-take-le i (drop from l₀) (omega arith) in
+      let r : i < length l₀ = omega arith in
+      let g : v ≡ getD (drop from l₀) i 0 =
+          e ∙ ap (λ (a : List ℕ). getD a (from + i) 0) (y .moved) ∙ at-shift k ∙ getD-drop i l₀ from 0 ∙ rw (add-comm i from) (sym (getD-drop from l₀ i 0)) in
+      let s : set l i v ≡ take (i + 1) (drop from l₀) ++ drop (i + 1) l₀ =
+          rw (y .moved, g, add-one i, drop-cons l₀ i 0 r, set-at (take i (drop from l₀)) (getD l₀ i 0) (drop (suc i) l₀) (getD (drop from l₀) i 0) i k, take-suc (drop from l₀) i 0 q)
+          (sym (append-snoc (take i (drop from l₀)) (getD (drop from l₀) i 0) (drop (suc i) l₀))) in
+      record { room = omega arith; long = length-set l i v ∙ y .long; moved = s }
+    where
+      at-shift : length (take i (drop from l₀)) ≡ i → getD (take i (drop from l₀) ++ drop i l₀) (from + i) 0 ≡ getD (drop i l₀) from 0
+      at-shift k =
+          ap (λ (j : ℕ). getD (take i (drop from l₀) ++ drop i l₀) j 0) (add-comm from i ∙ ap (λ (j : ℕ). j + from) (sym k))
+          ∙ getD-append-add (take i (drop from l₀)) (drop i l₀) from 0
+
+  pub keep-done : n ≤ i → l ≡ take n (drop from l₀) ++ drop n l₀
+  keep-done p = let e : i ≡ n = omega (arith, y .room) in rw e at (y .moved)
+
+pub ruleset keep-cases = (keep-start, keep-more, keep-done)
+
+pub block-done : (last : Bool) (n w k : ℕ) (l l′ out out′ : List ℕ) (s : State) (x : Played) (m : Memory) → w ≡ wholeBytes last n → IsPlay (take w l) s out x m out′ → k ≡ n - w
+    → l′ ≡ take (n - w) (drop w l) ++ drop (n - w) l
+    → IsPlay (take (wholeBytes last n) l) s out x m out′ × (k ≡ n - wholeBytes last n)
+    × (l′ ≡ take (n - wholeBytes last n) (drop (wholeBytes last n) l) ++ drop (n - wholeBytes last n) l)
+block-done last n w k l l′ out out′ s x m e i f g = rw (← e) (i, f, g)
+
+-- fewer bytes are kept than a record has
+pub kept-short : (last : Bool) (n k : ℕ) → k ≡ n - wholeBytes last n → k < 4
+unfolding wholeBytes
+kept-short true n k e = omega arith
+kept-short false n k e = omega arith

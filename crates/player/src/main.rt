@@ -1,0 +1,142 @@
+// Plays a log of accesses from standard input and prints what its records come to, in constant memory, from a fresh
+// unit of board 9 and memory that is all zero. The work is done by the crate log; here are the reads and writes.
+// read_more, goes_on, turn: one block. turns_left, play_input: block after block. main: the memory.
+ghost use mathlib.Core.Path.{_≡_};
+ghost use Prim.Native.Nat.{_+_, _*_, _/_, _<_, _≤_};
+ghost use lib.ListN.{length};
+ghost use Rattle.model.specs.Unit.{state};
+ghost use Rattle.model.specs.Log.{startState};
+ghost use Rattle.log.specs.Play.{playMemory};
+use model::Ppu;
+
+// The unit after a block, how many bytes are kept of a record that the block cut, and whether to go on.
+struct Progress {
+    unit: Ppu,
+    kept: usize,
+    going: bool,
+}
+
+// Whether to read on: something was read, what it printed could be written, and no refusal 5 ended the play.
+fn goes_on(more: usize, is_written: bool, ended: bool) -> bool {
+    if more == 0 {
+        return false;
+    }
+    if ended {
+        return false;
+    }
+    is_written
+}
+
+// Reads once, behind the bytes that are kept; how many bytes came, 0 at the end of the input and where it cannot be read.
+fn read_more(block: &mut [u8], kept: usize) -> usize
+    requires { ⌜ kept ≤ length (now block) ⌝ }
+    ensures { λ r. ⌜ kept + r ≤ length (now (block .entry)) ⌝ }
+{
+    let got = libc::read(libc::STDIN_FILENO, &mut block[kept..]);
+    io::count(got, &block[kept..])
+}
+
+// Reads, plays what is there and writes what that prints.
+fn turn(
+    u: Ppu,
+    kept: usize,
+    block: &mut [u8],
+    out: &mut [u8],
+    left: &mut [u8],
+    right: &mut [u8],
+    nametables: &mut [u8],
+    oam: &mut [u8],
+    palette: &mut [u8],
+    line: &mut [u8],
+) -> Progress
+    requires { ⌜ (kept < 4) × (length (now block) ≡ 16384) × (length (now out) ≡ 65536) ⌝ }
+    ensures { λ r. ⌜ r .kept < 4 ⌝ }
+{
+    let more = read_more(block, kept);
+    let b = log::play_block(
+        u,
+        block,
+        kept + more,
+        more == 0,
+        out,
+        left,
+        right,
+        nametables,
+        oam,
+        palette,
+        line,
+    );
+    let played = b.played;
+    let written = played.written;
+    let is_written = io::write_all(libc::STDOUT_FILENO, &out[..written]);
+    let unit = played.unit;
+    Progress {
+        unit,
+        kept: b.kept,
+        going: goes_on(more, is_written, played.ended),
+    }
+}
+
+// A proved loop has to end, and nothing says that the input does: so the turns that are left are counted down, from a
+// number that no run uses up, to 0 at the end.
+fn turns_left(turns: u64, going: bool) -> u64
+    requires { ⌜ 0 < turns ⌝ }
+    ensures { λ r. ⌜ r < turns ⌝ }
+{
+    if going {
+        return turns - 1;
+    }
+    0
+}
+
+// Plays standard input, from the state in which the player begins.
+fn play_input(
+    u: Ppu,
+    block: &mut [u8],
+    out: &mut [u8],
+    left: &mut [u8],
+    right: &mut [u8],
+    nametables: &mut [u8],
+    oam: &mut [u8],
+    palette: &mut [u8],
+    line: &mut [u8],
+)
+    requires { ⌜ (state u (playMemory (now left) (now right) (now nametables) (now oam) (now palette) (now line)) ≡ startState) × (length (now block) ≡ 16384) × (length (now out) ≡ 65536) ⌝ }
+{
+    let mut n = u;
+    let mut kept = 0;
+    let mut turns = u64::MAX;
+    while turns > 0 {
+        let t = turn(
+            n, kept, block, out, left, right, nametables, oam, palette, line,
+        );
+        let after = t.unit;
+        n = after;
+        kept = t.kept;
+        turns = turns_left(turns, t.going);
+    }
+}
+
+fn main() {
+    let mut block = [0u8; 16384];
+    let mut out = [0u8; 65536];
+    let mut left = [0u8; 4096];
+    let mut right = [0u8; 4096];
+    let mut nametables = [0u8; 2048];
+    let mut oam = [0u8; 256];
+    let mut palette = [0u8; 32];
+    let mut line = [0u8; 256];
+    let a = ppu::fresh(9);
+    let u = a.unit;
+    play_input(
+        u,
+        &mut block,
+        &mut out,
+        &mut left,
+        &mut right,
+        &mut nametables,
+        &mut oam,
+        &mut palette,
+        &mut line,
+    );
+}

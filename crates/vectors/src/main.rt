@@ -1,0 +1,306 @@
+// Runs the checked values through the public calls and prints one line each.
+// Calls: warmed, wrote, tried, got, drew, ran, number. What they show: place, nametable_cell, palette_cell, opaque_column,
+// stepped, lowered, printed. Lines: say, say_hex.
+// One function a group of values: cells, palette_cells, scrolling, stepping, rows, status, runs, refusals.
+ghost use Prim.Native.Nat.{_≤_};
+ghost use lib.ListN.{length};
+use model::Access;
+use model::Ppu;
+
+// A unit of this board that is warmed up.
+fn warmed(board: u8) -> Ppu {
+    let a = ppu::fresh(board);
+    let u = a.unit;
+    Ppu { warm: true, ..u }
+}
+
+// The unit after a write; all memory zero.
+fn wrote(u: Ppu, address: u16, byte: u8) -> Ppu {
+    let mut left = [0u8; 4096];
+    let mut right = [0u8; 4096];
+    let mut nametables = [0u8; 2048];
+    let mut oam = [0u8; 256];
+    let mut palette = [0u8; 32];
+    let a = ppu::write(
+        u,
+        address,
+        byte,
+        &mut left,
+        &mut right,
+        &mut nametables,
+        &mut oam,
+        &mut palette,
+    );
+    let n = a.unit;
+    n
+}
+
+// A read with this OAM; all memory zero.
+fn tried(u: Ppu, address: u16, oam: &[u8]) -> Access {
+    let left = [0u8; 4096];
+    let right = [0u8; 4096];
+    let nametables = [0u8; 2048];
+    let palette = [0u8; 32];
+    ppu::read(u, address, &left, &right, &nametables, oam, &palette)
+}
+
+fn got(u: Ppu, address: u16) -> Access {
+    let oam = [0u8; 256];
+    tried(u, address, &oam)
+}
+
+// The unit after a line; all memory zero.
+fn drew(u: Ppu) -> Ppu {
+    let left = [0u8; 4096];
+    let right = [0u8; 4096];
+    let nametables = [0u8; 2048];
+    let oam = [0u8; 256];
+    let mut line = [0u8; 256];
+    let a = ppu::line(u, &left, &right, &nametables, &oam, &mut line);
+    let n = a.unit;
+    n
+}
+
+// The lines that a run of at most 262 runs from this line, with control bit 7 set.
+fn ran(scanline: u16) -> u16 {
+    let f = warmed(0);
+    let u = Ppu {
+        control: 128,
+        scanline,
+        ..f
+    };
+    let left = [0u8; 4096];
+    let right = [0u8; 4096];
+    let nametables = [0u8; 2048];
+    let oam = [0u8; 256];
+    let mut line = [0u8; 256];
+    let a = ppu::run(u, 262, &left, &right, &nametables, &oam, &mut line);
+    let answer = a.answer;
+    answer.lines
+}
+
+// Where a byte stands first, or the length where it does not.
+fn place(s: &[u8], byte: u8) -> usize {
+    let mut i = 0;
+    while i < s.len() {
+        if s[i] == byte {
+            return i;
+        }
+        i += 1;
+    }
+    i
+}
+
+// The cell of nametable RAM that a write of port 7 stores in, for a board and v.
+fn nametable_cell(board: u8, v: u16) -> usize {
+    let f = warmed(board);
+    let u = Ppu { v, ..f };
+    let mut left = [0u8; 4096];
+    let mut right = [0u8; 4096];
+    let mut nametables = [0u8; 2048];
+    let mut oam = [0u8; 256];
+    let mut palette = [0u8; 32];
+    ppu::write(
+        u,
+        0x2007,
+        42,
+        &mut left,
+        &mut right,
+        &mut nametables,
+        &mut oam,
+        &mut palette,
+    );
+    place(&nametables, 42)
+}
+
+// The same of the palette.
+fn palette_cell(v: u16) -> usize {
+    let f = warmed(0);
+    let u = Ppu { v, ..f };
+    let mut left = [0u8; 4096];
+    let mut right = [0u8; 4096];
+    let mut nametables = [0u8; 2048];
+    let mut oam = [0u8; 256];
+    let mut palette = [0u8; 32];
+    ppu::write(
+        u,
+        0x2007,
+        42,
+        &mut left,
+        &mut right,
+        &mut nametables,
+        &mut oam,
+        &mut palette,
+    );
+    place(&palette, 42)
+}
+
+// The first opaque column of a line whose only opaque tile stands at this cell, drawn with the background from v on, wiring 1.
+fn opaque_column(v: u16, cell: usize) -> usize
+    requires { ⌜ cell ≤ 2047 ⌝ }
+{
+    let f = warmed(1);
+    let u = Ppu { v, mask: 10, ..f };
+    let mut left = [0u8; 4096];
+    left[16] = 255;
+    let right = [0u8; 4096];
+    let mut nametables = [0u8; 2048];
+    nametables[cell] = 1;
+    let oam = [0u8; 256];
+    let mut line = [0u8; 256];
+    ppu::line(u, &left, &right, &nametables, &oam, &mut line);
+    place(&line, 1)
+}
+
+// What the play of an empty log prints, in bytes.
+fn printed() -> usize {
+    let u = warmed(9);
+    let none = [0u8; 1];
+    let mut out = [0u8; 15];
+    let mut left = [0u8; 4096];
+    let mut right = [0u8; 4096];
+    let mut nametables = [0u8; 2048];
+    let mut oam = [0u8; 256];
+    let mut palette = [0u8; 32];
+    let mut line = [0u8; 256];
+    let p = log::play(
+        u,
+        &none[..0],
+        &mut out,
+        &mut left,
+        &mut right,
+        &mut nametables,
+        &mut oam,
+        &mut palette,
+        &mut line,
+    );
+    p.written
+}
+
+fn number(a: Access) -> u64 {
+    let answer = a.answer;
+    answer.number as u64
+}
+
+// A line: what a value is, and the value.
+fn say(what: &[u8], value: u64) {
+    io::write_all(libc::STDOUT_FILENO, what);
+    io::print_decimal(libc::STDOUT_FILENO, value);
+    io::write_all(libc::STDOUT_FILENO, b"\n");
+}
+
+// The same in hex.
+fn say_hex(what: &[u8], value: u64) {
+    io::write_all(libc::STDOUT_FILENO, what);
+    io::print_hex(libc::STDOUT_FILENO, value, 2);
+    io::write_all(libc::STDOUT_FILENO, b"\n");
+}
+
+fn cells() {
+    say(b"$2C05, wiring 0: cell ", nametable_cell(0, 0x2C05) as u64);
+    say(b"$2C05, wiring 1: cell ", nametable_cell(1, 0x2C05) as u64);
+    say(b"$2C05, wiring 3: cell ", nametable_cell(3, 0x2C05) as u64);
+    say(b"$2C05, wiring 2: cell ", nametable_cell(2, 0x2C05) as u64);
+    say(b"$2405, wiring 0: cell ", nametable_cell(0, 0x2405) as u64);
+    say(b"$2405, wiring 1: cell ", nametable_cell(1, 0x2405) as u64);
+    say(b"$3EFF, wiring 0: cell ", nametable_cell(0, 0x3EFF) as u64);
+}
+
+fn palette_cells() {
+    say(b"$3F10: palette ", palette_cell(0x3F10) as u64);
+    say(b"$3F14: palette ", palette_cell(0x3F14) as u64);
+    say(b"$3F11: palette ", palette_cell(0x3F11) as u64);
+    say(b"$3FFF: palette ", palette_cell(0x3FFF) as u64);
+}
+
+fn scrolling() {
+    let first = wrote(warmed(0), 0x2005, 125);
+    let second = wrote(first, 0x2005, 94);
+    say(b"port 5 with 125, 94: t ", second.t as u64);
+    say(b"port 5 with 125, 94: x ", second.x as u64);
+    let third = wrote(second, 0x2006, 0x3D);
+    let fourth = wrote(third, 0x2006, 0xF0);
+    say(b"then port 6 with $3D, $F0: v ", fourth.v as u64);
+}
+
+// v after a read of port 7, with this control.
+fn stepped(control: u8) -> u64 {
+    let f = warmed(0);
+    let u = Ppu {
+        control,
+        v: 32767,
+        ..f
+    };
+    let a = got(u, 0x2007);
+    let n = a.unit;
+    n.v as u64
+}
+
+fn stepping() {
+    say(b"v 32767 + 1: ", stepped(0));
+    say(b"v 32767 + 32: ", stepped(4));
+}
+
+// v after line 0 with the background on, t being 0.
+fn lowered(v: u16) -> u64 {
+    let f = warmed(0);
+    let u = Ppu { v, mask: 8, ..f };
+    let n = drew(u);
+    n.v as u64
+}
+
+fn rows() {
+    say(b"row down 29600: ", lowered(29600));
+    say(b"row down 29664: ", lowered(29664));
+    say(b"row down 29568: ", lowered(29568));
+    say(b"v 31: cell 1024 is seen from column ", opaque_column(31, 1024) as u64);
+}
+
+fn status() {
+    let f = warmed(0);
+    let u = Ppu {
+        status: 0x80,
+        latch: 0x35,
+        ..f
+    };
+    let first = got(u, 0x2002);
+    let a = first.answer;
+    say_hex(b"status $80, latch $35: read 2 gives $", a.byte as u64);
+    let n = first.unit;
+    let second = got(n, 0x2002);
+    let b = second.answer;
+    say_hex(b"then $", b.byte as u64);
+}
+
+fn runs() {
+    say(b"run of 262 from 241: lines ", ran(241) as u64);
+    say(b"run of 262 from 242: lines ", ran(242) as u64);
+    say(b"run of 262 from 0: lines ", ran(0) as u64);
+}
+
+fn refusals() {
+    let u = warmed(0);
+    let oam = [0u8; 257];
+    say(b"$1FFF: ", number(got(u, 0x1FFF)));
+    say(b"$4000: ", number(got(u, 0x4000)));
+    say(b"$3FFF: ", number(got(u, 0x3FFF)));
+    say(b"255 bytes of OAM: ", number(tried(u, 0x2002, &oam[..255])));
+    say(b"257 bytes of OAM: ", number(tried(u, 0x2002, &oam)));
+    let late = Ppu {
+        scanline: 262,
+        ..u
+    };
+    say(b"next line 262: ", number(got(late, 0x2002)));
+    say(b"an empty log prints: ", printed() as u64);
+}
+
+fn main() {
+    cells();
+    palette_cells();
+    scrolling();
+    stepping();
+    rows();
+    status();
+    runs();
+    refusals();
+}

@@ -1,0 +1,243 @@
+/* Hostile callers: every memory lent at random lengths from 0 to 5000, and nothing outside may be touched.
+
+       lengths ROUNDS SEED pages    slices in pages of their own: at the front of the page, next to memory that may not
+                                    be touched; at its back, likewise; or within, with guard bytes on both sides
+       lengths ROUNDS SEED heap     slices in blocks of exactly their length, for valgrind and AddressSanitizer
+
+   A call with a wrong length must answer 2 and change nothing; one with the right lengths must not answer 2; what is
+   lent to be looked at is never changed. LINES says that the archive has ppu_line and ppu_run. With REACH_READ or
+   REACH_WRITE the test itself goes one byte beyond a slice, as a faulty library would, to show that this is noticed. */
+#define _DEFAULT_SOURCE
+#include <stdio.h>
+#include <stdlib.h>
+#include <string.h>
+#include <sys/mman.h>
+#include "ppu.h"
+
+enum { UNIT, LEFT, RIGHT, NAMETABLES, OAM, PALETTE, LINE, PAGE, MEMORIES };
+enum { FRESH, READ, WRITE, DMA, RUN_LINE, RUN_MANY, KINDS };
+enum { LONGEST = 5000, ROOM = 8192, BARRIER = 4096 };
+
+static const size_t right_length[MEMORIES] = {16, 4096, 4096, 2048, 256, 32, 256, 256};
+static const char *const kind_name[KINDS] = {"fresh", "read", "write", "dma", "line", "run"};
+
+/* The memories that a kind of call is lent, and those of them that it may change, as sets of bits. */
+static const unsigned lent[KINDS] = {0x01, 0x3F, 0x3F, 0x91, 0x5F, 0x5F};
+static const unsigned mutable_ones[KINDS] = {0x01, 0x01, 0x3F, 0x11, 0x41, 0x41};
+
+static struct memory {
+    uint8_t *room;    /* ROOM bytes between two barriers, or the block itself */
+    uint8_t *at;      /* the slice that is lent */
+    size_t length;
+    uint8_t before[ROOM];
+} memory[MEMORIES];
+
+static int in_pages, failed;
+static uint64_t state;
+
+static uint64_t next_random(void)
+{
+    uint64_t z = (state += 0x9E3779B97F4A7C15u);
+    z = (z ^ z >> 30) * 0xBF58476D1CE4E5B9u;
+    z = (z ^ z >> 27) * 0x94D049BB133111EBu;
+    return z ^ z >> 31;
+}
+
+static size_t below(size_t limit)
+{
+    return next_random() % limit;
+}
+
+static void open_rooms(void)
+{
+    for (int m = 0; m < MEMORIES; m++) {
+        uint8_t *whole = mmap(NULL, ROOM + 2 * BARRIER, PROT_NONE, MAP_PRIVATE | MAP_ANONYMOUS, -1, 0);
+        if (whole == MAP_FAILED || mprotect(whole + BARRIER, ROOM, PROT_READ | PROT_WRITE) != 0) {
+            perror("lengths");
+            exit(2);
+        }
+        memory[m].room = whole + BARRIER;
+    }
+}
+
+/* A slice of the length somewhere in its room, or a block of its own. */
+static void place(struct memory *m, size_t length)
+{
+    m->length = length;
+    if (!in_pages) {
+        m->room = m->at = malloc(length);
+        if (m->room == NULL) {
+            perror("lengths");
+            exit(2);
+        }
+        return;
+    }
+    size_t where = below(3);
+    m->at = m->room + (where == 0 ? 0 : where == 1 ? ROOM - length : 64 + below(ROOM - length - 128));
+}
+
+static size_t room_size(const struct memory *m)
+{
+    return in_pages ? ROOM : m->length;
+}
+
+static void fill(struct memory *m)
+{
+    size_t size = room_size(m);
+    for (size_t i = 0; i < size; i += 8) {
+        uint64_t random = next_random();
+        memcpy(m->room + i, &random, size - i < 8 ? size - i : 8);
+    }
+}
+
+static void keep(struct memory *m)
+{
+    memcpy(m->before, m->room, room_size(m));
+}
+
+/* Makes a record of 16 bytes or more well formed, at a random line. */
+static void make_well_formed(uint8_t *unit)
+{
+    size_t line = below(262);
+    unit[2] &= 0xE0;
+    unit[5] &= 0x7F;
+    unit[7] &= 0x7F;
+    unit[8] &= 7;
+    unit[9] &= 1;
+    unit[12] = (uint8_t)line;
+    unit[13] = (uint8_t)(line >> 8);
+    unit[14] &= 1;
+    unit[15] &= 0x0B;
+}
+
+/* Lengths: all right; one off by one; one of any length; all of any length. */
+static void choose_lengths(int kind, size_t *length)
+{
+    size_t style = below(4);
+    size_t odd;
+    do
+        odd = below(MEMORIES);
+    while (!(lent[kind] >> odd & 1));
+    for (int m = 0; m < MEMORIES; m++)
+        length[m] = style == 3 ? below(LONGEST + 1) : right_length[m];
+    if (style == 1)
+        length[odd] += below(2) ? 1 : (size_t)-1;
+    if (style == 2)
+        length[odd] = below(LONGEST + 1);
+}
+
+#define SLICE(m) memory[m].at, memory[m].length
+
+static uint64_t call(int kind)
+{
+    uint16_t address = (uint16_t)(below(8) ? 0x2000 + below(0x2000) : next_random());
+    uint8_t byte = (uint8_t)next_random();
+    switch (kind) {
+    case FRESH:
+        return ppu_fresh(SLICE(UNIT), byte & 0x1F);
+    case READ:
+        return ppu_read(SLICE(UNIT), address, SLICE(LEFT), SLICE(RIGHT), SLICE(NAMETABLES), SLICE(OAM), SLICE(PALETTE));
+    case WRITE:
+        return ppu_write(SLICE(UNIT), address, byte, SLICE(LEFT), SLICE(RIGHT), SLICE(NAMETABLES), SLICE(OAM), SLICE(PALETTE));
+    case DMA:
+        return ppu_dma(SLICE(UNIT), SLICE(OAM), SLICE(PAGE));
+#ifdef LINES
+    case RUN_LINE:
+        return ppu_line(SLICE(UNIT), SLICE(LEFT), SLICE(RIGHT), SLICE(NAMETABLES), SLICE(OAM), SLICE(LINE));
+    default:
+        return ppu_run(SLICE(UNIT), (uint16_t)below(5), SLICE(LEFT), SLICE(RIGHT), SLICE(NAMETABLES), SLICE(OAM), SLICE(LINE));
+#else
+    default:
+        abort();
+#endif
+    }
+}
+
+/* What a faulty library would do: a touch of the byte behind the line buffer. */
+static void reach(void)
+{
+#if defined REACH_READ
+    volatile uint8_t *behind = memory[LINE].at + memory[LINE].length;
+    if (*behind == 1)
+        state++;
+#elif defined REACH_WRITE
+    memory[LINE].at[memory[LINE].length] ^= 1;
+#endif
+}
+
+static void complain(long round, int kind, const char *what)
+{
+    printf("tests/callers: round %ld, %s: %s; lengths", round, kind_name[kind], what);
+    for (int m = 0; m < MEMORIES; m++)
+        printf(" %zu", memory[m].length);
+    printf("\n");
+    failed = 1;
+}
+
+/* Whether what is before and behind the slice, and the slice itself if it may not change, is as it was. */
+static int is_kept(const struct memory *m, int may_change)
+{
+    size_t front = (size_t)(m->at - m->room), end = front + m->length;
+    if (!may_change)
+        return memcmp(m->room, m->before, room_size(m)) == 0;
+    return memcmp(m->room, m->before, front) == 0 && memcmp(m->room + end, m->before + end, room_size(m) - end) == 0;
+}
+
+static int round_of(long round, int kind)
+{
+    size_t length[MEMORIES];
+    int wrong = 0;
+    choose_lengths(kind, length);
+    for (int m = 0; m < MEMORIES; m++) {
+        place(&memory[m], length[m]);
+        fill(&memory[m]);
+        if (m == UNIT && length[m] >= 16 && below(4))
+            make_well_formed(memory[m].at);
+        keep(&memory[m]);
+        wrong |= (lent[kind] >> m & 1) && length[m] != right_length[m];
+    }
+    uint64_t answer = call(kind);
+    reach();
+    int number = (int)ppu_number(answer);
+    if ((number == 2) != wrong)
+        complain(round, kind, wrong ? "a wrong length is not refused with 2" : "the right lengths are refused with 2");
+    if (number != 0 && answer != (uint64_t)number)
+        complain(round, kind, "a refusal says more than its number");
+    for (int m = 0; m < MEMORIES; m++) {
+        if (!is_kept(&memory[m], number == 0 && (mutable_ones[kind] >> m & 1)))
+            complain(round, kind, "memory changed that must not");
+        if (!in_pages)
+            free(memory[m].room);
+    }
+    return number;
+}
+
+int main(int argc, char **argv)
+{
+    if (argc != 4) {
+        fprintf(stderr, "usage: lengths ROUNDS SEED pages|heap\n");
+        return 2;
+    }
+    long rounds = atol(argv[1]), count[KINDS][6] = {{0}};
+    state = strtoull(argv[2], NULL, 10);
+    in_pages = strcmp(argv[3], "pages") == 0;
+    if (in_pages)
+        open_rooms();
+#ifdef LINES
+    int kinds = KINDS;
+#else
+    int kinds = RUN_LINE;
+    printf("tests/callers: the archive has no ppu_line and ppu_run\n");
+#endif
+    for (long round = 0; round < rounds && !failed; round++) {
+        int kind = (int)below((size_t)kinds);
+        count[kind][round_of(round, kind) % 6]++;
+    }
+    for (int k = 0; k < kinds; k++) {
+        printf("  %-5s %ld done, refused %ld with 1, %ld with 2, %ld with 3, %ld with 4\n", kind_name[k], count[k][0],
+               count[k][1], count[k][2], count[k][3], count[k][4]);
+        failed |= count[k][0] == 0 || count[k][2] == 0;
+    }
+    printf("tests/callers: %ld calls, seed %s, %s: %s\n", rounds, argv[2], argv[3], failed ? "FAILED" : "ok");
+    return failed;
+}

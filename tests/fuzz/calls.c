@@ -1,0 +1,166 @@
+/* A byte string as calls on the library and on the second picture unit; any difference aborts.
+
+   The string: 16 bytes of the unit's record (as they are if the next byte is odd, else made well formed), a byte that
+   chooses the contents of memory, then steps. A step is a byte, whose low three bits say what, and its arguments:
+   0 read, 1 write, 2 sprite DMA, 3 line, 4 run, 5 a byte of memory, 6 a sprite near the next line, 7 a length for the
+   next call, or fresh. LINES says that the archive has ppu_line and ppu_run. */
+#include <stdio.h>
+#include <stdlib.h>
+#include <string.h>
+#include "ppu.h"
+#include "second.h"
+
+enum { UNIT, LEFT, RIGHT, NAMETABLES, OAM, PALETTE, LINE, PAGE, MEMORIES };
+enum { LONGEST = 4096, SLACK = 16, STEPS = 60, MOST_LINES = 24, CONTENTS = 16 };
+
+static const size_t right_length[MEMORIES] = {16, 4096, 4096, 2048, 256, 32, 256, 256};
+
+struct side {
+    uint8_t memory[MEMORIES][LONGEST + 2 * SLACK];
+};
+
+static struct side library, second;
+static size_t length[MEMORIES];
+
+static const uint8_t *input;
+static size_t left_over;
+
+static unsigned take(void)
+{
+    if (left_over == 0)
+        return 0;
+    left_over--;
+    return *input++;
+}
+
+static unsigned take_two(void)
+{
+    unsigned high = take();
+    return high << 8 | take();
+}
+
+static void set_byte(int memory, size_t at, uint8_t byte)
+{
+    library.memory[memory][SLACK + at] = second.memory[memory][SLACK + at] = byte;
+}
+
+static void make_well_formed(uint8_t *unit)
+{
+    unsigned line = (unit[12] | unit[13] << 8) % 262;
+    unit[2] &= 0xE0;
+    unit[5] &= 0x7F;
+    unit[7] &= 0x7F;
+    unit[8] &= 7;
+    unit[9] &= 1;
+    unit[12] = line & 255;
+    unit[13] = line >> 8;
+    unit[14] &= 1;
+    unit[15] &= 0x0B;
+}
+
+static void fill(struct side *side, unsigned choice)
+{
+    uint32_t state = choice * 2654435761u + 1;
+    for (int m = 0; m < MEMORIES; m++)
+        for (size_t i = 0; i < LONGEST + 2 * SLACK; i++) {
+            state = state * 1664525u + 1013904223u;
+            side->memory[m][i] = choice % 4 == 0 ? 0 : choice % 4 == 1 ? state >> 24 & state >> 16 : state >> 24;
+        }
+}
+
+#define SLICE(side, m) (side).memory[m] + SLACK, length[m]
+#define ACCESS(side) SLICE(side, LEFT), SLICE(side, RIGHT), SLICE(side, NAMETABLES), SLICE(side, OAM), SLICE(side, PALETTE)
+#define PICTURE(side) SLICE(side, LEFT), SLICE(side, RIGHT), SLICE(side, NAMETABLES), SLICE(side, OAM), SLICE(side, LINE)
+
+/* Compares both sides after a call, and gives the right lengths back. */
+static void compare(const char *what, uint64_t one, uint64_t other)
+{
+    if (one != other || memcmp(&library, &second, sizeof library) != 0) {
+        fprintf(stderr, "DIFFERENCE after %s: library %llx, second %llx\n", what, (unsigned long long)one,
+                (unsigned long long)other);
+        abort();
+    }
+    memcpy(length, right_length, sizeof length);
+}
+
+static void put_sprite(void)
+{
+    const uint8_t *unit = library.memory[UNIT] + SLACK;
+    unsigned line = unit[12] | unit[13] << 8, slot = take() % 64;
+    set_byte(OAM, 4 * slot, (uint8_t)(line - take() % 20));
+    for (int i = 1; i < 4; i++)
+        set_byte(OAM, 4 * slot + i, (uint8_t)take());
+}
+
+static void step(unsigned what)
+{
+    unsigned address, byte, memory;
+    switch (what & 7) {
+    case 0:
+        address = what & 8 ? take_two() : 0x2000 | what >> 4;
+        compare("read", ppu_read(SLICE(library, UNIT), address, ACCESS(library)),
+                second_read(SLICE(second, UNIT), address, ACCESS(second)));
+        break;
+    case 1:
+        address = what & 8 ? take_two() : 0x2000 | what >> 4;
+        byte = take();
+        compare("write", ppu_write(SLICE(library, UNIT), address, byte, ACCESS(library)),
+                second_write(SLICE(second, UNIT), address, byte, ACCESS(second)));
+        break;
+    case 2:
+        compare("dma", ppu_dma(SLICE(library, UNIT), SLICE(library, OAM), SLICE(library, PAGE)),
+                second_dma(SLICE(second, UNIT), SLICE(second, OAM), SLICE(second, PAGE)));
+        break;
+#ifdef LINES
+    case 3:
+        compare("line", ppu_line(SLICE(library, UNIT), PICTURE(library)), second_line(SLICE(second, UNIT), PICTURE(second)));
+        break;
+    case 4:
+        byte = (what & 8 ? take() : what >> 4) % (MOST_LINES + 1);
+        compare("run", ppu_run(SLICE(library, UNIT), byte, PICTURE(library)),
+                second_run(SLICE(second, UNIT), byte, PICTURE(second)));
+        break;
+#endif
+    case 5:
+        memory = what >> 4 & 7;
+        address = take_two();
+        set_byte(memory, address % right_length[memory], (uint8_t)take());
+        break;
+    case 6:
+        put_sprite();
+        break;
+    case 7:
+        memory = what >> 4 & 7;
+        if (what & 8)
+            length[memory] = take_two() % (right_length[memory] + SLACK + 1);
+        else {
+            byte = take();
+            compare("fresh", ppu_fresh(SLICE(library, UNIT), byte), second_fresh(SLICE(second, UNIT), byte));
+        }
+        break;
+    }
+}
+
+int LLVMFuzzerTestOneInput(const uint8_t *bytes, size_t size)
+{
+    static struct side contents[CONTENTS];
+    static uint8_t filled[CONTENTS];
+    if (size < 18)
+        return 0;
+    input = bytes + 16;
+    left_over = size - 16;
+    unsigned form = take(), choice = take() % CONTENTS;
+    if (!filled[choice]) {
+        fill(&contents[choice], choice);
+        filled[choice] = 1;
+    }
+    library = contents[choice];
+    memcpy(library.memory[UNIT] + SLACK, bytes, 16);
+    if (!(form & 1))
+        make_well_formed(library.memory[UNIT] + SLACK);
+    second = library;
+    memcpy(length, right_length, sizeof length);
+    for (int steps = 0; left_over > 0 && steps < STEPS; steps++)
+        step(take());
+    return 0;
+}

@@ -1,0 +1,17 @@
+/* The second picture unit's calls: those of ppu.h under other names. */
+#ifndef SECOND_H
+#define SECOND_H
+#include <stddef.h>
+#include <stdint.h>
+
+uint64_t second_fresh(uint8_t *unit, size_t, uint8_t board);
+uint64_t second_read(uint8_t *unit, size_t, uint16_t address, const uint8_t *left, size_t, const uint8_t *right, size_t,
+                     const uint8_t *nametables, size_t, const uint8_t *oam, size_t, const uint8_t *palette, size_t);
+uint64_t second_write(uint8_t *unit, size_t, uint16_t address, uint8_t byte, uint8_t *left, size_t, uint8_t *right, size_t,
+                      uint8_t *nametables, size_t, uint8_t *oam, size_t, uint8_t *palette, size_t);
+uint64_t second_dma(uint8_t *unit, size_t, uint8_t *oam, size_t, const uint8_t *page, size_t);
+uint64_t second_line(uint8_t *unit, size_t, const uint8_t *left, size_t, const uint8_t *right, size_t,
+                     const uint8_t *nametables, size_t, const uint8_t *oam, size_t, uint8_t *line, size_t);
+uint64_t second_run(uint8_t *unit, size_t, uint16_t lines, const uint8_t *left, size_t, const uint8_t *right, size_t,
+                    const uint8_t *nametables, size_t, const uint8_t *oam, size_t, uint8_t *line, size_t);
+#endif

@@ -1,0 +1,154 @@
+//! The second picture unit behind the C interface: under names of its own, or, with
+//! `cfg(as_library)`, under the library's, to stand in its place.
+//!
+//! # Safety
+//! As for the library: each pointer has that many bytes behind it, and no two overlap.
+
+#![allow(clippy::too_many_arguments, clippy::missing_safety_doc)]
+
+use second::calls;
+use std::slice::{from_raw_parts, from_raw_parts_mut};
+
+type Size = usize;
+type Shared = *const u8;
+type Mutable = *mut u8;
+
+#[cfg_attr(as_library, export_name = "ppu_fresh")]
+#[cfg_attr(not(as_library), export_name = "second_fresh")]
+pub unsafe extern "C" fn fresh(unit: Mutable, unit_size: Size, board: u8) -> u64 {
+    calls::fresh(from_raw_parts_mut(unit, unit_size), board).into()
+}
+
+#[cfg_attr(as_library, export_name = "ppu_read")]
+#[cfg_attr(not(as_library), export_name = "second_read")]
+pub unsafe extern "C" fn read(
+    unit: Mutable,
+    unit_size: Size,
+    address: u16,
+    left: Shared,
+    left_size: Size,
+    right: Shared,
+    right_size: Size,
+    nametables: Shared,
+    nametables_size: Size,
+    oam: Shared,
+    oam_size: Size,
+    palette: Shared,
+    palette_size: Size,
+) -> u64 {
+    calls::read(
+        from_raw_parts_mut(unit, unit_size),
+        address,
+        from_raw_parts(left, left_size),
+        from_raw_parts(right, right_size),
+        from_raw_parts(nametables, nametables_size),
+        from_raw_parts(oam, oam_size),
+        from_raw_parts(palette, palette_size),
+    )
+    .into()
+}
+
+#[cfg_attr(as_library, export_name = "ppu_write")]
+#[cfg_attr(not(as_library), export_name = "second_write")]
+pub unsafe extern "C" fn write(
+    unit: Mutable,
+    unit_size: Size,
+    address: u16,
+    byte: u8,
+    left: Mutable,
+    left_size: Size,
+    right: Mutable,
+    right_size: Size,
+    nametables: Mutable,
+    nametables_size: Size,
+    oam: Mutable,
+    oam_size: Size,
+    palette: Mutable,
+    palette_size: Size,
+) -> u64 {
+    calls::write(
+        from_raw_parts_mut(unit, unit_size),
+        address,
+        byte,
+        from_raw_parts_mut(left, left_size),
+        from_raw_parts_mut(right, right_size),
+        from_raw_parts_mut(nametables, nametables_size),
+        from_raw_parts_mut(oam, oam_size),
+        from_raw_parts_mut(palette, palette_size),
+    )
+    .into()
+}
+
+#[cfg_attr(as_library, export_name = "ppu_dma")]
+#[cfg_attr(not(as_library), export_name = "second_dma")]
+pub unsafe extern "C" fn dma(
+    unit: Mutable,
+    unit_size: Size,
+    oam: Mutable,
+    oam_size: Size,
+    page: Shared,
+    page_size: Size,
+) -> u64 {
+    calls::dma(
+        from_raw_parts_mut(unit, unit_size),
+        from_raw_parts_mut(oam, oam_size),
+        from_raw_parts(page, page_size),
+    )
+    .into()
+}
+
+#[cfg_attr(as_library, export_name = "ppu_line")]
+#[cfg_attr(not(as_library), export_name = "second_line")]
+pub unsafe extern "C" fn line(
+    unit: Mutable,
+    unit_size: Size,
+    left: Shared,
+    left_size: Size,
+    right: Shared,
+    right_size: Size,
+    nametables: Shared,
+    nametables_size: Size,
+    oam: Shared,
+    oam_size: Size,
+    line: Mutable,
+    line_size: Size,
+) -> u64 {
+    calls::line(
+        from_raw_parts_mut(unit, unit_size),
+        from_raw_parts(left, left_size),
+        from_raw_parts(right, right_size),
+        from_raw_parts(nametables, nametables_size),
+        from_raw_parts(oam, oam_size),
+        from_raw_parts_mut(line, line_size),
+    )
+    .into()
+}
+
+#[cfg_attr(as_library, export_name = "ppu_run")]
+#[cfg_attr(not(as_library), export_name = "second_run")]
+pub unsafe extern "C" fn run(
+    unit: Mutable,
+    unit_size: Size,
+    most: u16,
+    left: Shared,
+    left_size: Size,
+    right: Shared,
+    right_size: Size,
+    nametables: Shared,
+    nametables_size: Size,
+    oam: Shared,
+    oam_size: Size,
+    line: Mutable,
+    line_size: Size,
+) -> u64 {
+    calls::run(
+        from_raw_parts_mut(unit, unit_size),
+        most,
+        from_raw_parts(left, left_size),
+        from_raw_parts(right, right_size),
+        from_raw_parts(nametables, nametables_size),
+        from_raw_parts(oam, oam_size),
+        from_raw_parts_mut(line, line_size),
+    )
+    .into()
+}

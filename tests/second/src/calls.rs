@@ -1,0 +1,192 @@
+//! The calls: a record of 16 bytes and byte slices in, an answer out.
+
+use crate::memory::{Lent, LentMut};
+use crate::picture::Scene;
+use crate::unit::{Board, Unit, RECORD};
+
+#[derive(Clone, Copy, Debug, PartialEq, Eq)]
+pub enum Refusal {
+    Address = 1,
+    Length = 2,
+    Malformed = 3,
+    Drawing = 4,
+    Log = 5,
+}
+
+#[derive(Clone, Copy, Debug, Default, PartialEq, Eq)]
+pub struct Answer {
+    pub number: u8,
+    pub byte: u8,
+    pub lines: u16,
+    pub nmi: bool,
+}
+
+/// The answer as the C interface packs it.
+impl From<Answer> for u64 {
+    fn from(answer: Answer) -> u64 {
+        u64::from(answer.number)
+            | u64::from(answer.byte) << 8
+            | u64::from(answer.nmi) << 16
+            | u64::from(answer.lines) << 32
+    }
+}
+
+/// What a call that is done gives back besides the unit.
+#[derive(Default)]
+struct Done {
+    byte: u8,
+    lines: u16,
+}
+
+type Outcome = Result<(Unit, Done), Refusal>;
+
+fn fixed<const N: usize>(slice: &[u8]) -> Result<&[u8; N], Refusal> {
+    slice.try_into().map_err(|_| Refusal::Length)
+}
+
+fn fixed_mut<const N: usize>(slice: &mut [u8]) -> Result<&mut [u8; N], Refusal> {
+    slice.try_into().map_err(|_| Refusal::Length)
+}
+
+fn loaded(record: &[u8; RECORD]) -> Result<Unit, Refusal> {
+    Unit::from_record(record).ok_or(Refusal::Malformed)
+}
+
+/// The port behind an address.
+fn port(address: u16) -> Result<u16, Refusal> {
+    match address {
+        0x2000..=0x3FFF => Ok(address % 8),
+        _ => Err(Refusal::Address),
+    }
+}
+
+/// Does a call's work on the record, saves the unit if the call is done, and makes the answer.
+fn call(record: &mut [u8], work: impl FnOnce(&[u8; RECORD]) -> Outcome) -> Answer {
+    match fixed(record).and_then(work) {
+        Ok((unit, Done { byte, lines })) => {
+            record.copy_from_slice(&unit.record());
+            Answer { number: 0, byte, lines, nmi: unit.nmi() }
+        }
+        Err(refusal) => Answer { number: refusal as u8, ..Answer::default() },
+    }
+}
+
+pub fn fresh(record: &mut [u8], board: u8) -> Answer {
+    call(record, |_| {
+        let board = Board::from_byte(board).ok_or(Refusal::Malformed)?;
+        Ok((Unit::fresh(board), Done::default()))
+    })
+}
+
+pub fn read(
+    record: &mut [u8],
+    address: u16,
+    left: &[u8],
+    right: &[u8],
+    nametables: &[u8],
+    oam: &[u8],
+    palette: &[u8],
+) -> Answer {
+    call(record, |saved| {
+        let memory = Lent {
+            left: fixed(left)?,
+            right: fixed(right)?,
+            nametables: fixed(nametables)?,
+            oam: fixed(oam)?,
+            palette: fixed(palette)?,
+        };
+        let mut unit = loaded(saved)?;
+        let port = port(address)?;
+        if unit.is_drawing() && (port == 4 || port == 7) {
+            return Err(Refusal::Drawing);
+        }
+        let byte = unit.read(port, &memory);
+        Ok((unit, Done { byte, lines: 0 }))
+    })
+}
+
+#[allow(clippy::too_many_arguments)]
+pub fn write(
+    record: &mut [u8],
+    address: u16,
+    byte: u8,
+    left: &mut [u8],
+    right: &mut [u8],
+    nametables: &mut [u8],
+    oam: &mut [u8],
+    palette: &mut [u8],
+) -> Answer {
+    call(record, |saved| {
+        let mut memory = LentMut {
+            left: fixed_mut(left)?,
+            right: fixed_mut(right)?,
+            nametables: fixed_mut(nametables)?,
+            oam: fixed_mut(oam)?,
+            palette: fixed_mut(palette)?,
+        };
+        let mut unit = loaded(saved)?;
+        let port = port(address)?;
+        if unit.is_drawing() && port == 7 {
+            return Err(Refusal::Drawing);
+        }
+        unit.write(port, byte, &mut memory);
+        Ok((unit, Done::default()))
+    })
+}
+
+pub fn dma(record: &mut [u8], oam: &mut [u8], page: &[u8]) -> Answer {
+    call(record, |saved| {
+        let oam = fixed_mut(oam)?;
+        let page: &[u8; 256] = fixed(page)?;
+        let mut unit = loaded(saved)?;
+        page.iter().for_each(|&byte| unit.write_oam(byte, oam));
+        Ok((unit, Done::default()))
+    })
+}
+
+/// A call that runs lines: `work` runs them and gives how many.
+fn lines_run(
+    record: &mut [u8],
+    [left, right, nametables, oam]: [&[u8]; 4],
+    line: &mut [u8],
+    work: impl Fn(&mut Unit, &Scene, &mut [u8; 256]) -> u16,
+) -> Answer {
+    call(record, |saved| {
+        let scene = Scene {
+            left: fixed(left)?,
+            right: fixed(right)?,
+            nametables: fixed(nametables)?,
+            oam: fixed(oam)?,
+        };
+        let line = fixed_mut(line)?;
+        let mut unit = loaded(saved)?;
+        let lines = work(&mut unit, &scene, line);
+        Ok((unit, Done { byte: 0, lines }))
+    })
+}
+
+pub fn line(
+    record: &mut [u8],
+    left: &[u8],
+    right: &[u8],
+    nametables: &[u8],
+    oam: &[u8],
+    line: &mut [u8],
+) -> Answer {
+    lines_run(record, [left, right, nametables, oam], line, |unit, scene, line| {
+        unit.line(scene, line);
+        1
+    })
+}
+
+pub fn run(
+    record: &mut [u8],
+    most: u16,
+    left: &[u8],
+    right: &[u8],
+    nametables: &[u8],
+    oam: &[u8],
+    line: &mut [u8],
+) -> Answer {
+    lines_run(record, [left, right, nametables, oam], line, |unit, scene, line| unit.run(most, scene, line))
+}

@@ -1,0 +1,177 @@
+//! A case: one call and the memory before it, as one line of text that can be played again.
+//!
+//!     write address=2007 byte=41 unit=0000..09 oam:255 left@0010=80FF
+//!
+//! `NAME:N` lends another length than the right one; `NAME@OFFSET=BYTES` are bytes that are not
+//! zero, `BYTE*N` being N of the same; all else is zero. Lengths, `N` and `most` are decimal, all
+//! else is hex.
+
+use crate::world::{Call, Kind, Name, World, LENGTHS, SLACK};
+use std::fmt::Write;
+
+#[derive(Clone)]
+pub struct Case {
+    pub call: Call,
+    pub before: World,
+}
+
+/// What both sides made of a case.
+pub struct Outcome {
+    pub library: (u64, World),
+    pub second: (u64, World),
+}
+
+impl Outcome {
+    pub fn differs(&self) -> bool {
+        self.library != self.second
+    }
+}
+
+fn hex(bytes: &[u8]) -> String {
+    bytes.iter().map(|b| format!("{b:02X}")).collect()
+}
+
+/// Bytes in hex, many of the same as a product.
+fn brief(bytes: &[u8]) -> String {
+    match bytes {
+        [first, ..] if bytes.len() > 8 && bytes.iter().all(|b| b == first) => {
+            format!("{first:02X}*{}", bytes.len())
+        }
+        _ => hex(bytes),
+    }
+}
+
+fn unhex(text: &str) -> Option<Vec<u8>> {
+    if let Some((byte, count)) = text.split_once('*') {
+        return Some(vec![u8::from_str_radix(byte, 16).ok()?; count.parse().ok()?]);
+    }
+    let pairs = (0..text.len()).step_by(2).map(|i| text.get(i..i + 2));
+    pairs.map(|pair| u8::from_str_radix(pair?, 16).ok()).collect()
+}
+
+impl Case {
+    pub fn outcome(&self) -> Outcome {
+        let on = |side: fn(&Call, &mut World) -> u64| {
+            let mut world = self.before.clone();
+            (side(&self.call, &mut world), world)
+        };
+        Outcome { library: on(Call::on_library), second: on(Call::on_second) }
+    }
+
+    pub fn text(&self) -> String {
+        let call = &self.call;
+        let mut text = call.kind.text().to_string();
+        match call.kind {
+            Kind::Fresh => write!(text, " board={:02X}", call.byte).unwrap(),
+            Kind::Read => write!(text, " address={:04X}", call.address).unwrap(),
+            Kind::Write => write!(text, " address={:04X} byte={:02X}", call.address, call.byte).unwrap(),
+            Kind::Run => write!(text, " most={}", call.most).unwrap(),
+            Kind::Dma | Kind::Line => {}
+        }
+        for name in Name::ALL {
+            let length = call.lengths[name as usize];
+            if length != name.length() {
+                write!(text, " {}:{length}", name.text()).unwrap();
+            }
+        }
+        write!(text, " unit={}", hex(&self.before.of(Name::Unit)[..16])).unwrap();
+        for name in Name::ALL {
+            let bytes = self.before.of(name);
+            let mut at = if name == Name::Unit { 16 } else { 0 };
+            while at < bytes.len() {
+                let run = bytes[at..].iter().take_while(|&&b| b != 0).count();
+                if run > 0 {
+                    write!(text, " {}@{at:04X}={}", name.text(), brief(&bytes[at..at + run])).unwrap();
+                }
+                at += run + 1;
+            }
+        }
+        text
+    }
+
+    pub fn parse(text: &str) -> Option<Case> {
+        let mut words = text.split_whitespace();
+        let kind = words.next()?;
+        let kind = Kind::ALL.into_iter().find(|k| k.text() == kind)?;
+        let mut case = Case { call: Call::new(kind), before: World::new() };
+        words.try_for_each(|word| case.take(word))?;
+        Some(case)
+    }
+
+    fn take(&mut self, word: &str) -> Option<()> {
+        let name = |text: &str| Name::ALL.into_iter().find(|n| n.text() == text);
+        if let Some((memory, length)) = word.split_once(':') {
+            let (name, length) = (name(memory)?, length.parse().ok()?);
+            self.call.lengths[name as usize] = length;
+            return (length <= LENGTHS[name as usize] + SLACK).then_some(());
+        }
+        let (left, value) = word.split_once('=')?;
+        match left {
+            "board" | "byte" => self.call.byte = u8::from_str_radix(value, 16).ok()?,
+            "address" => self.call.address = u16::from_str_radix(value, 16).ok()?,
+            "most" => self.call.most = value.parse().ok()?,
+            _ => {
+                let (memory, offset) = left.split_once('@').unwrap_or((left, "0"));
+                let (offset, bytes) = (usize::from_str_radix(offset, 16).ok()?, unhex(value)?);
+                let room = self.before.of_mut(name(memory)?);
+                room.get_mut(offset..offset + bytes.len())?.copy_from_slice(&bytes);
+            }
+        }
+        Some(())
+    }
+
+    /// The same difference from less: bytes become zero as long as both sides still differ.
+    pub fn shortened(mut self) -> Case {
+        while self.call.kind == Kind::Run && self.call.most > 0 {
+            let mut fewer = self.clone();
+            fewer.call.most = if fewer.call.most > 1024 { fewer.call.most / 2 } else { fewer.call.most - 1 };
+            if !fewer.outcome().differs() {
+                break;
+            }
+            self = fewer;
+        }
+        for name in Name::ALL {
+            let all = self.before.of(name).len();
+            let mut size = if name == Name::Unit { 1 } else { all };
+            while size > 0 {
+                for at in (0..all).step_by(size) {
+                    let end = all.min(at + size);
+                    if self.before.of(name)[at..end].iter().all(|&b| b == 0) {
+                        continue;
+                    }
+                    let mut less = self.clone();
+                    less.before.of_mut(name)[at..end].fill(0);
+                    if less.outcome().differs() {
+                        self = less;
+                    }
+                }
+                size /= 2;
+            }
+        }
+        self
+    }
+
+    /// What both sides made of it, for a reader.
+    pub fn report(&self) -> String {
+        let outcome = self.outcome();
+        let mut text = format!("case: {}\n", self.text());
+        for (side, (answer, world)) in [("library", &outcome.library), ("second ", &outcome.second)] {
+            let (number, byte, nmi) = (answer & 255, answer >> 8 & 255, answer >> 16 & 1);
+            let (lines, rest) = (answer >> 32, answer >> 17 & 0x7FFF);
+            write!(text, "{side}: number {number}, byte {byte:02X}, lines {lines}, nmi {nmi}").unwrap();
+            if rest != 0 {
+                write!(text, ", bits 17 to 31 {rest:04X}").unwrap();
+            }
+            writeln!(text, ", unit {}", hex(&world.of(Name::Unit)[..16])).unwrap();
+        }
+        for name in Name::ALL {
+            let (library, second) = (&outcome.library.1, &outcome.second.1);
+            let memory = |world: &World| world.0[name as usize].clone();
+            if let Some((at, a, b)) = memory(library).first_difference(&memory(second)) {
+                let name = name.text();
+                writeln!(text, "{name}[{at}]: library {a:02X}, second {b:02X}").unwrap();
+            }
+        }
+        text
+    }
+}

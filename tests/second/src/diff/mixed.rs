@@ -1,0 +1,146 @@
+//! Random sessions: long ones with the record and the memory carried along, and drawn lines.
+
+use crate::random::Random;
+use crate::scenery;
+use crate::systematic::{refill, some_call};
+use crate::trial::{Stop, Trial};
+use crate::world::{Call, Kind, Name, SLACK};
+
+use Kind::*;
+
+/// What a session mostly does.
+const HABITS: [&[Kind]; 4] = [
+    &[Read, Read, Read, Write, Write, Write, Write, Dma],
+    &[Read, Write, Write, Line, Line, Line, Line, Dma],
+    &[Read, Read, Write, Write, Write, Line, Run, Dma],
+    &[Write, Line, Line, Run, Run],
+];
+
+pub fn session(trial: &mut Trial, random: &mut Random, calls: usize) -> Result<(), Stop> {
+    refill(trial, random);
+    let habit = random.pick(&HABITS);
+    for _ in 0..calls {
+        disturb(trial, random);
+        let kind = if random.one_in(200) { Fresh } else { random.pick(habit) };
+        let mut call = some_call(random, kind);
+        if random.one_in(40) {
+            mislength(random, &mut call);
+        }
+        if kind == Run {
+            call.most = run_length(trial, random);
+        }
+        if kind == Dma && random.one_in(2) {
+            scatter_sprites(trial, random, Name::Page);
+        }
+        if kind == Write && random.one_in(8) {
+            follow_up(trial, random, &call)?;
+        }
+        trial.call(&call)?;
+    }
+    Ok(())
+}
+
+/// Drawn lines, each with a unit of its own and sprites about it.
+pub fn pictures(trial: &mut Trial, random: &mut Random, calls: usize) -> Result<(), Stop> {
+    for number in 0..calls {
+        if number % 50 == 0 {
+            refill(trial, random);
+        }
+        let mut unit = scenery::unit(random);
+        let line = random.below(240) as u16;
+        unit[1] |= random.pick(&[0x08, 0x10, 0x18, 0x18, 0x1E]);
+        unit[12..14].copy_from_slice(&line.to_le_bytes());
+        trial.set(Name::Unit, &unit);
+        scatter_sprites(trial, random, Name::Oam);
+        trial.call(&Call::line())?;
+    }
+    Ok(())
+}
+
+/// Now and then something that no call did: a new unit, another line, other sprites.
+fn disturb(trial: &mut Trial, random: &mut Random) {
+    let mut unit = trial.unit();
+    match random.below(64) {
+        0 => trial.set(Name::Unit, &scenery::unit(random)),
+        1 => {
+            scenery::spoil(random, &mut unit);
+            trial.set(Name::Unit, &unit);
+        }
+        2 | 3 => {
+            unit[12..14].copy_from_slice(&(random.below(262) as u16).to_le_bytes());
+            trial.set(Name::Unit, &unit);
+        }
+        4..=11 => scatter_sprites(trial, random, Name::Oam),
+        12 => trial.set(Name::Left, &scenery::table(random)),
+        13 => trial.set(Name::Right, &scenery::table(random)),
+        14 => trial.set(Name::Nametables, &scenery::nametables(random)),
+        15 => {
+            unit[14] = 1;
+            trial.set(Name::Unit, &unit);
+        }
+        16..=19 => {
+            unit[1] ^= random.pick(&[0x02, 0x04, 0x06, 0x08, 0x10, 0x18]);
+            trial.set(Name::Unit, &unit);
+        }
+        _ => {}
+    }
+    let malformed = second::unit::Unit::from_record(&trial.unit()).is_none();
+    if malformed && random.one_in(3) {
+        trial.set(Name::Unit, &scenery::unit(random));
+    }
+}
+
+/// Sprites that have to do with the next line, into OAM or the page for sprite DMA.
+fn scatter_sprites(trial: &mut Trial, random: &mut Random, name: Name) {
+    let line = scenery::next_line(&trial.unit()).min(261);
+    trial.set(name, &scenery::oam(random, line));
+}
+
+fn mislength(random: &mut Random, call: &mut Call) {
+    loop {
+        let name = random.pick(call.kind.lent());
+        let right = name.length();
+        call.lengths[name as usize] = match random.below(4) {
+            0 => right - 1,
+            1 => right + 1,
+            2 => 0,
+            _ => random.within(0, right + SLACK),
+        };
+        if !random.one_in(4) {
+            break;
+        }
+    }
+}
+
+/// Short runs where pixels are drawn, any where they are not.
+fn run_length(trial: &Trial, random: &mut Random) -> u16 {
+    let drawn = trial.unit()[1] & 0x18 != 0;
+    match random.below(if drawn { 80 } else { 8 }) {
+        0 => random.below(300) as u16,
+        1 if !drawn => random.below(3000) as u16,
+        _ => random.below(12) as u16,
+    }
+}
+
+/// The pairs of writes that programs make: scroll, address, then data.
+fn follow_up(trial: &mut Trial, random: &mut Random, call: &Call) -> Result<(), Stop> {
+    let mut write = |port: u16, byte: u8| trial.call(&Call { address: 0x2000 + port, byte, ..call.clone() });
+    match random.below(3) {
+        0 => {
+            write(5, random.byte())?;
+            write(5, random.byte())?;
+        }
+        1 => {
+            write(6, random.byte())?;
+            write(6, random.byte())?;
+            for _ in 0..random.below(20) {
+                write(7, random.byte())?;
+            }
+        }
+        _ => {
+            write(0, random.byte())?;
+            write(1, random.byte())?;
+        }
+    }
+    Ok(())
+}

@@ -1,0 +1,144 @@
+//! Contents of units and memories, of many styles.
+
+use crate::random::Random;
+
+/// Lines about which something changes.
+const EDGE_LINES: [u16; 12] = [0, 1, 2, 7, 238, 239, 240, 241, 242, 260, 261, 261];
+const MASKS: [u8; 8] = [0x00, 0x08, 0x10, 0x18, 0x1A, 0x1C, 0x1E, 0x1F];
+
+/// A record that is well formed.
+pub fn unit(random: &mut Random) -> [u8; 16] {
+    let mut unit = [0; 16];
+    random.fill(&mut unit);
+    if random.one_in(2) {
+        unit[1] = random.pick(&MASKS);
+    }
+    unit[2] &= 0xE0;
+    if random.one_in(4) {
+        unit[5] = random.pick(&[0x70, 0x73, 0x7B, 0x3F, 0x7F, 0x1F, 0x2F]);
+        unit[4] |= random.pick(&[0x1F, 0xA0, 0xE0, 0xFF]);
+    }
+    unit[5] &= 0x7F;
+    unit[7] &= 0x7F;
+    unit[8] &= 7;
+    unit[9] &= 1;
+    let line = if random.one_in(4) { random.pick(&EDGE_LINES) } else { random.below(262) as u16 };
+    unit[12..14].copy_from_slice(&line.to_le_bytes());
+    unit[14] = u8::from(!random.one_in(12));
+    unit[15] &= 0x0B;
+    unit
+}
+
+pub fn next_line(unit: &[u8; 16]) -> u16 {
+    u16::from_le_bytes([unit[12], unit[13]])
+}
+
+/// Spoils a record in one place or more.
+pub fn spoil(random: &mut Random, unit: &mut [u8; 16]) {
+    loop {
+        match random.below(8) {
+            0 => unit[2] |= 1 << random.below(5),
+            1 => unit[5] |= 0x80,
+            2 => unit[7] |= 0x80,
+            3 => unit[8] = random.within(8, 255) as u8,
+            4 => unit[9] = random.within(2, 255) as u8,
+            5 => {
+                let line = random.pick(&[262, 263, 511, 512, 0x8000, 0xFFFF]);
+                let line = if random.one_in(2) { line } else { random.within(262, 65535) };
+                unit[12..14].copy_from_slice(&(line as u16).to_le_bytes());
+            }
+            6 => unit[14] = random.within(2, 255) as u8,
+            _ => unit[15] |= random.pick(&[4, 0x10, 0x20, 0x40, 0x80]),
+        }
+        if !random.one_in(4) {
+            break;
+        }
+    }
+}
+
+/// A pattern table.
+pub fn table(random: &mut Random) -> [u8; 4096] {
+    let mut table = [0; 4096];
+    match random.below(6) {
+        0 => table.fill(0xFF),
+        1 => {
+            for row in &mut table {
+                *row = random.byte() & random.byte() & random.byte();
+            }
+        }
+        2 => {
+            for tile in table.chunks_mut(16) {
+                match random.below(4) {
+                    0 => random.fill(tile),
+                    1 => tile.fill(0x81),
+                    _ => {}
+                }
+            }
+        }
+        3 => {
+            for row in &mut table {
+                *row = 1 << random.below(8);
+            }
+        }
+        _ => random.fill(&mut table),
+    }
+    table
+}
+
+pub fn nametables(random: &mut Random) -> [u8; 2048] {
+    let mut cells = [0; 2048];
+    match random.below(4) {
+        0 => {
+            let few = [random.byte(), random.byte(), random.byte()];
+            for cell in &mut cells {
+                *cell = random.pick(&few);
+            }
+            for page in cells.chunks_mut(1024) {
+                random.fill(&mut page[960..]);
+            }
+        }
+        1 => cells.fill(random.byte()),
+        _ => random.fill(&mut cells),
+    }
+    cells
+}
+
+/// OAM whose sprites have to do with the line.
+pub fn oam(random: &mut Random, line: u16) -> [u8; 256] {
+    let mut oam = [0; 256];
+    random.fill(&mut oam);
+    let style = random.below(8);
+    let wanted = random.within(1, 12);
+    let (base_x, attributes) = (random.byte(), random.byte());
+    let near = |random: &mut Random| (line + 3).saturating_sub(random.below(22) as u16).min(255) as u8;
+    for sprite in oam.chunks_mut(4) {
+        match style {
+            0 => sprite[0] = near(random),
+            1 => {
+                sprite[0] =
+                    if random.below(64) < wanted { near(random) } else { random.within(240, 255) as u8 }
+            }
+            2 => {
+                sprite[0] = near(random);
+                sprite[3] = base_x.wrapping_add(random.below(20) as u8);
+            }
+            3 => {
+                sprite[0] = random.pick(&[0, 1, 2, 222, 223, 224, 231, 232, 238, 239, 240, 247, 254, 255]);
+                sprite[3] = random.pick(&[0, 1, 2, 6, 7, 8, 9, 246, 247, 248, 249, 250, 254, 255]);
+            }
+            4 => {
+                sprite[0] = near(random);
+                sprite[2] = attributes;
+            }
+            5 => {
+                sprite[0] = if random.below(64) < wanted { near(random) } else { 0xFF };
+                sprite[3] = random.pick(&[0, 3, 7, 8, 120, 124, 248, 251, 255]);
+            }
+            _ => {}
+        }
+    }
+    if random.one_in(3) {
+        oam[0] = near(random);
+    }
+    oam
+}

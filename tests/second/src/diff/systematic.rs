@@ -1,0 +1,418 @@
+//! Sessions that go through all values of something.
+
+use crate::random::Random;
+use crate::scenery;
+use crate::trial::{Stop, Trial};
+use crate::world::{Call, Kind, Name, SLACK};
+
+pub type Session = fn(&mut Trial, &mut Random, usize) -> Result<(), Stop>;
+
+/// Each kind of session, with the number of parts that it comes in.
+pub const SESSIONS: [(&str, Session, usize); 17] = [
+    ("boards", boards, 1),
+    ("addresses", addresses, 16),
+    ("ports", ports, 8),
+    ("lengths", lengths, 6),
+    ("pairs of lengths", pairs_of_lengths, 6),
+    ("records", records, 6),
+    ("wide fields", wide_fields, 12),
+    ("video memory", video_memory, 16),
+    ("scroll writes", scroll_writes, 8),
+    ("OAM port", oam_port, 4),
+    ("palette reads", palette_reads, 4),
+    ("lines and masks", lines_and_masks, 8),
+    ("v on a line", v_on_a_line, 16),
+    ("sprite rows", sprite_rows, 8),
+    ("sprite columns", sprite_columns, 8),
+    ("sprites in number", sprites_in_number, 4),
+    ("runs", runs, 8),
+];
+
+/// New contents everywhere.
+pub fn refill(trial: &mut Trial, random: &mut Random) {
+    let unit = scenery::unit(random);
+    trial.set(Name::Unit, &unit);
+    trial.set(Name::Left, &scenery::table(random));
+    trial.set(Name::Right, &scenery::table(random));
+    trial.set(Name::Nametables, &scenery::nametables(random));
+    trial.set(Name::Oam, &scenery::oam(random, scenery::next_line(&unit)));
+    for name in [Name::Palette, Name::Line, Name::Page] {
+        let mut bytes = vec![0; name.length()];
+        random.fill(&mut bytes);
+        trial.set(name, &bytes);
+    }
+    for name in Name::ALL {
+        let mut beyond = [0; SLACK];
+        random.fill(&mut beyond);
+        trial.set_at(name, name.length(), &beyond);
+    }
+}
+
+/// A well-formed unit that does not draw and is warmed up.
+fn calm_unit(random: &mut Random) -> [u8; 16] {
+    let mut unit = scenery::unit(random);
+    unit[12..14].copy_from_slice(&random.pick(&[240u16, 241, 250, 260]).to_le_bytes());
+    unit[14] = 1;
+    unit
+}
+
+fn unit_at_line(random: &mut Random, line: u16) -> [u8; 16] {
+    let mut unit = scenery::unit(random);
+    unit[12..14].copy_from_slice(&line.to_le_bytes());
+    unit
+}
+
+/// A call of the kind, its arguments random and mostly accepted.
+pub fn some_call(random: &mut Random, kind: Kind) -> Call {
+    let address = match random.below(16) {
+        0 => random.pick(&[0, 0x1FF8, 0x1FFF, 0x4000, 0x4007, 0x8000, 0xFFFF]),
+        1 => random.next() as u16,
+        _ => random.within(0x2000, 0x3FFF) as u16,
+    };
+    let board = if random.one_in(4) { random.byte() } else { random.byte() & 0x0B };
+    match kind {
+        Kind::Fresh => Call::fresh(board),
+        Kind::Read => Call::read(address),
+        Kind::Write => Call::write(address, random.byte()),
+        Kind::Dma => Call::dma(),
+        Kind::Line => Call::line(),
+        Kind::Run => Call::run(random.below(6) as u16),
+    }
+}
+
+fn boards(trial: &mut Trial, random: &mut Random, _: usize) -> Result<(), Stop> {
+    for length in 0..=16 + SLACK {
+        refill(trial, random);
+        for board in 0..=255 {
+            trial.call(&Call::fresh(board).with_length(Name::Unit, length))?;
+        }
+    }
+    Ok(())
+}
+
+fn addresses(trial: &mut Trial, random: &mut Random, part: usize) -> Result<(), Stop> {
+    refill(trial, random);
+    for address in part * 4096..part * 4096 + 4096 {
+        trial.set(Name::Unit, &scenery::unit(random));
+        trial.call(&Call::read(address as u16))?;
+        trial.set(Name::Unit, &scenery::unit(random));
+        trial.call(&Call::write(address as u16, random.byte()))?;
+    }
+    Ok(())
+}
+
+/// A port, with w, warmed up and drawing each on and off, and every byte.
+fn ports(trial: &mut Trial, random: &mut Random, port: usize) -> Result<(), Stop> {
+    refill(trial, random);
+    for state in 0..16u8 {
+        for byte in 0..=255 {
+            let mut unit = scenery::unit(random);
+            unit[1] = unit[1] & !0x18 | (state & 3) << 3;
+            unit[9] = state >> 2 & 1;
+            unit[14] = state >> 3;
+            let address = 0x2000 + 8 * random.below(1024) as u16 + port as u16;
+            trial.set(Name::Unit, &unit);
+            trial.call(&Call::write(address, byte))?;
+            unit[11] = byte;
+            trial.set(Name::Unit, &unit);
+            trial.call(&Call::read(address))?;
+        }
+    }
+    Ok(())
+}
+
+/// A kind of call, each memory lent at each length from 0 to beyond the right one.
+fn lengths(trial: &mut Trial, random: &mut Random, kind: usize) -> Result<(), Stop> {
+    let kind = Kind::ALL[kind];
+    refill(trial, random);
+    for &name in kind.lent() {
+        for length in 0..=name.length() + SLACK {
+            let mut unit = scenery::unit(random);
+            if random.one_in(3) {
+                scenery::spoil(random, &mut unit);
+            }
+            trial.set(Name::Unit, &unit);
+            trial.call(&some_call(random, kind).with_length(name, length))?;
+        }
+    }
+    Ok(())
+}
+
+/// A kind of call, each two memories one byte short, right or one byte long.
+fn pairs_of_lengths(trial: &mut Trial, random: &mut Random, kind: usize) -> Result<(), Stop> {
+    let kind = Kind::ALL[kind];
+    refill(trial, random);
+    for &one in kind.lent() {
+        for &other in kind.lent() {
+            for which in 0..54 {
+                let mut unit = scenery::unit(random);
+                if which % 2 == 1 {
+                    scenery::spoil(random, &mut unit);
+                }
+                trial.set(Name::Unit, &unit);
+                let call = some_call(random, kind);
+                let call = call.with_length(one, one.length() + which / 2 % 3 - 1);
+                trial.call(&call.with_length(other, other.length() + which / 6 % 3 - 1))?;
+            }
+        }
+    }
+    Ok(())
+}
+
+/// A kind of call, each byte of the record with every value.
+fn records(trial: &mut Trial, random: &mut Random, kind: usize) -> Result<(), Stop> {
+    let kind = Kind::ALL[kind];
+    refill(trial, random);
+    for at in 0..16 {
+        for value in 0..=255 {
+            let mut unit = scenery::unit(random);
+            unit[at] = value;
+            trial.set(Name::Unit, &unit);
+            trial.call(&some_call(random, kind))?;
+        }
+    }
+    Ok(())
+}
+
+/// Every 16-bit value of v, t or next line.
+fn wide_fields(trial: &mut Trial, random: &mut Random, part: usize) -> Result<(), Stop> {
+    let at = [4, 6, 12][part % 3];
+    let kind = [Kind::Read, Kind::Write, Kind::Dma, Kind::Line][part / 3];
+    refill(trial, random);
+    for value in 0..=65535u16 {
+        let mut unit = scenery::unit(random);
+        unit[at..at + 2].copy_from_slice(&value.to_le_bytes());
+        if kind == Kind::Line && at != 12 {
+            unit[12..14].copy_from_slice(&261u16.to_le_bytes());
+        }
+        trial.set(Name::Unit, &unit);
+        trial.call(&some_call(random, kind))?;
+    }
+    Ok(())
+}
+
+/// Port 7 at every v, for a board and a step.
+fn video_memory(trial: &mut Trial, random: &mut Random, part: usize) -> Result<(), Stop> {
+    refill(trial, random);
+    for v in 0..0x8000u16 {
+        let mut unit = calm_unit(random);
+        unit[0] = unit[0] & !4 | (part as u8 & 1) << 2;
+        unit[4..6].copy_from_slice(&v.to_le_bytes());
+        unit[15] = [0, 1, 2, 3, 8, 9, 10, 11][part / 2];
+        trial.set(Name::Unit, &unit);
+        trial.call(&Call::read(0x2007))?;
+        trial.set(Name::Unit, &unit);
+        trial.call(&Call::write(0x2007, random.byte()))?;
+    }
+    Ok(())
+}
+
+/// Ports 0, 2, 5 and 6 at every t, first and second writes.
+fn scroll_writes(trial: &mut Trial, random: &mut Random, part: usize) -> Result<(), Stop> {
+    refill(trial, random);
+    for t in 0..0x8000u16 {
+        let mut unit = calm_unit(random);
+        unit[6..8].copy_from_slice(&t.to_le_bytes());
+        unit[9] = part as u8 & 1;
+        trial.set(Name::Unit, &unit);
+        let byte = if random.one_in(2) { random.byte() } else { (t >> 3) as u8 };
+        trial.call(&Call::write(0x2000 + [0, 2, 5, 6][part / 2], byte))?;
+    }
+    Ok(())
+}
+
+/// Port 4 and sprite DMA at every OAMADDR.
+fn oam_port(trial: &mut Trial, random: &mut Random, part: usize) -> Result<(), Stop> {
+    refill(trial, random);
+    for address in 0..=255 {
+        for round in 0..40 {
+            let mut unit = scenery::unit(random);
+            unit[3] = address;
+            if part % 2 == 1 {
+                unit[1] &= !0x18;
+            }
+            trial.set(Name::Unit, &unit);
+            match round {
+                0..=15 => trial.call(&Call::write(0x2004, random.byte()))?,
+                16..=31 => trial.call(&Call::read(0x2004))?,
+                _ => trial.call(&Call::dma())?,
+            };
+            trial.set_at(Name::Oam, random.below(256), &[random.byte()]);
+            trial.set_at(Name::Page, random.below(256), &[random.byte()]);
+        }
+    }
+    Ok(())
+}
+
+/// Port 7 at every palette address with every lent byte.
+fn palette_reads(trial: &mut Trial, random: &mut Random, part: usize) -> Result<(), Stop> {
+    refill(trial, random);
+    for address in (0x3F00 + part as u16..0x4000).step_by(4) {
+        for byte in 0..=255u8 {
+            let mut unit = calm_unit(random);
+            let v = address | (u16::from(byte) << 14 & 0x4000);
+            unit[4..6].copy_from_slice(&v.to_le_bytes());
+            trial.set(Name::Unit, &unit);
+            trial.set_at(Name::Palette, usize::from(address % 32), &[byte]);
+            trial.set_at(Name::Palette, usize::from(address % 16), &[!byte]);
+            trial.call(&Call::read(0x2007))?;
+            trial.call(&Call::read(0x2007))?;
+        }
+    }
+    Ok(())
+}
+
+/// Every line with every mask.
+fn lines_and_masks(trial: &mut Trial, random: &mut Random, part: usize) -> Result<(), Stop> {
+    for line in 0..262 {
+        if line % 8 == 0 {
+            refill(trial, random);
+        }
+        for mask in (part as u8..=255).step_by(8) {
+            let mut unit = unit_at_line(random, line);
+            unit[1] = mask;
+            trial.set(Name::Unit, &unit);
+            trial.set(Name::Oam, &scenery::oam(random, line));
+            trial.call(&Call::line())?;
+        }
+    }
+    Ok(())
+}
+
+/// A drawn line at every v.
+fn v_on_a_line(trial: &mut Trial, random: &mut Random, part: usize) -> Result<(), Stop> {
+    for v in (part as u16..0x8000).step_by(16) {
+        if v / 16 % 64 == 0 {
+            refill(trial, random);
+            trial.set(Name::Oam, &[0xFF; 256]);
+        }
+        let line = random.below(240) as u16;
+        let mut unit = unit_at_line(random, line);
+        unit[1] |= random.pick(&[0x08, 0x0A, 0x0A, 0x10]);
+        unit[4..6].copy_from_slice(&v.to_le_bytes());
+        unit[8] = (v / 16 % 8) as u8;
+        trial.set(Name::Unit, &unit);
+        trial.call(&Call::line())?;
+    }
+    Ok(())
+}
+
+/// A sprite at every Y byte, on lines about it and on others, both heights, flipped or not.
+fn sprite_rows(trial: &mut Trial, random: &mut Random, part: usize) -> Result<(), Stop> {
+    for y in (part..256).step_by(8) {
+        refill(trial, random);
+        for round in 0..120 {
+            let line = match round {
+                0..=79 => (y + round / 4).saturating_sub(1).min(239) as u16,
+                _ => random.below(240) as u16,
+            };
+            let mut unit = unit_at_line(random, line);
+            unit[0] = unit[0] & !0x20 | (round as u8 & 1) << 5;
+            unit[1] |= 0x14;
+            let mut oam = [0xFF; 256];
+            let slot = random.below(64);
+            let attributes = random.byte() & 0x7F | (round as u8 & 2) << 6;
+            oam[4 * slot..4 * slot + 4].copy_from_slice(&[y as u8, random.byte(), attributes, random.byte()]);
+            trial.set(Name::Unit, &unit);
+            trial.set(Name::Oam, &oam);
+            trial.call(&Call::line())?;
+        }
+    }
+    Ok(())
+}
+
+/// Sprite 0 and another at every X, by attribute bits and mask bits.
+fn sprite_columns(trial: &mut Trial, random: &mut Random, part: usize) -> Result<(), Stop> {
+    for x in 0..=255u8 {
+        if x % 16 == 0 {
+            refill(trial, random);
+        }
+        for round in 0..16u8 {
+            let line = random.within(1, 239) as u16;
+            let mut unit = unit_at_line(random, line);
+            unit[1] = unit[1] & !6 | (round & 3) << 1 | 0x18;
+            let y = (line as u8 - 1).saturating_sub(random.below(8) as u8);
+            let mut oam = [0xFF; 256];
+            let attributes = (part as u8 * 32) | random.byte() & 31;
+            oam[..4].copy_from_slice(&[y, random.byte(), attributes, x]);
+            let beside = x.wrapping_add(random.below(9) as u8).wrapping_sub(4);
+            let slot = random.within(1, 63);
+            oam[4 * slot..4 * slot + 4].copy_from_slice(&[y, random.byte(), random.byte(), beside]);
+            trial.set(Name::Unit, &unit);
+            trial.set(Name::Oam, &oam);
+            trial.call(&Call::line())?;
+        }
+    }
+    Ok(())
+}
+
+/// From none to 64 sprites on one row, in random places of OAM.
+fn sprites_in_number(trial: &mut Trial, random: &mut Random, part: usize) -> Result<(), Stop> {
+    for number in 0..=64 {
+        refill(trial, random);
+        for round in 0..40 {
+            let number = if round % 2 == 0 { number } else { number % 12 };
+            let line = random.within(0, 239) as u16;
+            let mut unit = unit_at_line(random, line);
+            unit[0] = unit[0] & !0x20 | (part as u8 & 1) << 5;
+            unit[1] |= [0x18, 0x10, 0x08, 0x1E][round % 4];
+            let mut oam = [0; 256];
+            random.fill(&mut oam);
+            for sprite in oam.chunks_mut(4) {
+                sprite[0] = 0xF8;
+            }
+            for slot in random_slots(random, number) {
+                let up = random.below(2 + 16 * (part / 2)) as u16;
+                oam[4 * slot] = line.saturating_sub(up) as u8;
+            }
+            trial.set(Name::Unit, &unit);
+            trial.set(Name::Oam, &oam);
+            trial.call(&Call::line())?;
+        }
+    }
+    Ok(())
+}
+
+fn random_slots(random: &mut Random, number: usize) -> Vec<usize> {
+    let mut slots: Vec<usize> = (0..64).collect();
+    for i in 0..number.min(63) {
+        slots.swap(i, random.within(i, 63));
+    }
+    slots.truncate(number);
+    slots
+}
+
+/// Runs from every line, of lengths about each bound, stopping early or not.
+fn runs(trial: &mut Trial, random: &mut Random, part: usize) -> Result<(), Stop> {
+    for line in (part as u16..262).step_by(8) {
+        refill(trial, random);
+        let stop = (241 + 262 - line) % 262 + 1;
+        let bounds = [0, 1, 2, stop - 1, stop, stop + 1, 241, 242, 261, 262, 263, 523, 524, 525];
+        for most in bounds {
+            for bits in 0..4 {
+                let mut unit = unit_at_line(random, line);
+                unit[0] = unit[0] & 0x7F | (bits & 1) << 7;
+                if !random.one_in(8) {
+                    unit[1] &= !0x18;
+                }
+                trial.set(Name::Unit, &unit);
+                trial.call(&Call::run(most))?;
+            }
+        }
+    }
+    for most in [1000, 32767, 32768, 65534, 65535] {
+        let mut unit = scenery::unit(random);
+        unit[0] = unit[0] & 0x7F | (part as u8 & 1) << 7;
+        unit[1] &= !0x18;
+        trial.set(Name::Unit, &unit);
+        trial.call(&Call::run(most))?;
+    }
+    if part == 0 {
+        let mut unit = scenery::unit(random);
+        unit[0] &= 0x7F;
+        unit[1] |= 0x18;
+        trial.set(Name::Unit, &unit);
+        trial.call(&Call::run(65535))?;
+    }
+    Ok(())
+}

@@ -1,0 +1,121 @@
+//! Both sides of a session: the same calls on each, compared after every call.
+
+use crate::case::Case;
+use crate::world::{Call, Kind, Name, World};
+
+/// Why a session ends before its time.
+pub enum Stop {
+    /// The sides differ after the call of this number.
+    Difference(u64),
+    /// The call that was asked for is reached.
+    Reached(Box<Case>),
+    /// The time is up.
+    Late,
+}
+
+/// What has been done, by kind of call and number answered.
+#[derive(Clone, Default)]
+pub struct Tally {
+    pub answers: [[u64; 6]; 6],
+    pub lines_run: u64,
+    pub early_stops: u64,
+    pub hits: u64,
+    pub overflows: u64,
+    pub sprite_pixels: u64,
+    pub background_pixels: u64,
+}
+
+impl Tally {
+    pub fn add(&mut self, other: &Tally) {
+        for (mine, theirs) in self.answers.iter_mut().flatten().zip(other.answers.iter().flatten()) {
+            *mine += theirs;
+        }
+        self.lines_run += other.lines_run;
+        self.early_stops += other.early_stops;
+        self.hits += other.hits;
+        self.overflows += other.overflows;
+        self.sprite_pixels += other.sprite_pixels;
+        self.background_pixels += other.background_pixels;
+    }
+
+    pub fn of_kind(&self, kind: Kind) -> u64 {
+        self.answers[kind as usize].iter().sum()
+    }
+
+    pub fn calls(&self) -> u64 {
+        self.answers.iter().flatten().sum()
+    }
+}
+
+pub struct Trial<'a> {
+    library: World,
+    second: World,
+    pub tally: Tally,
+    calls: u64,
+    /// The call before which to stop, and give the case.
+    until: Option<u64>,
+    late: &'a dyn Fn() -> bool,
+}
+
+impl<'a> Trial<'a> {
+    pub fn new(until: Option<u64>, late: &'a dyn Fn() -> bool) -> Trial<'a> {
+        Trial { library: World::new(), second: World::new(), tally: Tally::default(), calls: 0, until, late }
+    }
+
+    pub fn unit(&self) -> [u8; 16] {
+        self.library.of(Name::Unit)[..16].try_into().unwrap()
+    }
+
+    /// Fills the front of a memory, the same on both sides.
+    pub fn set(&mut self, name: Name, bytes: &[u8]) {
+        self.set_at(name, 0, bytes);
+    }
+
+    pub fn set_at(&mut self, name: Name, at: usize, bytes: &[u8]) {
+        for world in [&mut self.library, &mut self.second] {
+            world.of_mut(name)[at..at + bytes.len()].copy_from_slice(bytes);
+        }
+    }
+
+    /// The call on both sides; its packed answer if they agree in all.
+    pub fn call(&mut self, call: &Call) -> Result<u64, Stop> {
+        if call.kind.runs_lines() && !library::LINES {
+            return Ok(0);
+        }
+        if self.until == Some(self.calls) {
+            let case = Case { call: call.clone(), before: self.library.clone() };
+            return Err(Stop::Reached(Box::new(case)));
+        }
+        if self.calls.is_multiple_of(256) && (self.late)() {
+            return Err(Stop::Late);
+        }
+        let status = self.unit()[2];
+        let answer = call.on_library(&mut self.library);
+        let expected = call.on_second(&mut self.second);
+        if answer != expected || self.library != self.second {
+            return Err(Stop::Difference(self.calls));
+        }
+        self.calls += 1;
+        self.count(call, answer, status);
+        Ok(answer)
+    }
+
+    fn count(&mut self, call: &Call, answer: u64, status: u8) {
+        let tally = &mut self.tally;
+        tally.answers[call.kind as usize][(answer & 7) as usize] += 1;
+        if call.kind.runs_lines() && answer & 255 == 0 {
+            let lines = answer >> 32;
+            let unit = self.library.of(Name::Unit);
+            let raised = unit[2] & !status;
+            tally.lines_run += lines;
+            tally.early_stops += u64::from(call.kind == Kind::Run && lines < call.most.into());
+            tally.hits += u64::from(raised >> 6 & 1);
+            tally.overflows += u64::from(raised >> 5 & 1);
+            if call.kind == Kind::Line && unit[1] & 0x18 != 0 {
+                let line = &self.library.of(Name::Line)[..256];
+                tally.sprite_pixels += line.iter().filter(|&&p| p >= 16).count() as u64;
+                tally.background_pixels += line.iter().filter(|&&p| p > 0 && p < 16).count() as u64;
+            }
+        }
+    }
+}

@@ -1,0 +1,189 @@
+//! The memories that a call is lent, and the calls themselves, on either side.
+
+/// The memories, in the order in which calls name them.
+#[derive(Clone, Copy, Debug, PartialEq, Eq)]
+pub enum Name {
+    Unit,
+    Left,
+    Right,
+    Nametables,
+    Oam,
+    Palette,
+    Line,
+    Page,
+}
+
+use Name::*;
+
+impl Name {
+    pub const ALL: [Name; 8] = [Unit, Left, Right, Nametables, Oam, Palette, Line, Page];
+
+    pub fn text(self) -> &'static str {
+        ["unit", "left", "right", "nametables", "oam", "palette", "line", "page"][self as usize]
+    }
+
+    pub fn length(self) -> usize {
+        LENGTHS[self as usize]
+    }
+}
+
+pub const LENGTHS: [usize; 8] = [16, 4096, 4096, 2048, 256, 32, 256, 256];
+
+/// Bytes beyond the right length that a call may be lent.
+pub const SLACK: usize = 64;
+const GUARD: usize = 32;
+
+/// One memory: guard bytes, its bytes and some more, guard bytes.
+#[derive(Clone, PartialEq, Eq)]
+pub struct Memory(Vec<u8>);
+
+impl Memory {
+    fn new(length: usize) -> Memory {
+        let guard = (0..GUARD).map(|i| 0xC3 ^ (37 * i) as u8);
+        let inside = std::iter::repeat_n(0, length + SLACK);
+        Memory(guard.clone().chain(inside).chain(guard).collect())
+    }
+
+    /// All bytes but the guards.
+    pub fn bytes(&self) -> &[u8] {
+        &self.0[GUARD..self.0.len() - GUARD]
+    }
+
+    pub fn bytes_mut(&mut self) -> &mut [u8] {
+        let end = self.0.len() - GUARD;
+        &mut self.0[GUARD..end]
+    }
+
+    /// Where two memories first differ, counted from the first byte that may be lent.
+    pub fn first_difference(&self, other: &Memory) -> Option<(isize, u8, u8)> {
+        let mut pairs = self.0.iter().zip(&other.0).zip(-(GUARD as isize)..);
+        pairs.find(|((a, b), _)| a != b).map(|((&a, &b), at)| (at, a, b))
+    }
+}
+
+#[derive(Clone, PartialEq, Eq)]
+pub struct World(pub [Memory; 8]);
+
+impl World {
+    pub fn new() -> World {
+        World(LENGTHS.map(Memory::new))
+    }
+
+    pub fn of(&self, name: Name) -> &[u8] {
+        self.0[name as usize].bytes()
+    }
+
+    pub fn of_mut(&mut self, name: Name) -> &mut [u8] {
+        self.0[name as usize].bytes_mut()
+    }
+}
+
+#[derive(Clone, Copy, Debug, PartialEq, Eq)]
+pub enum Kind {
+    Fresh,
+    Read,
+    Write,
+    Dma,
+    Line,
+    Run,
+}
+
+impl Kind {
+    pub const ALL: [Kind; 6] = [Kind::Fresh, Kind::Read, Kind::Write, Kind::Dma, Kind::Line, Kind::Run];
+
+    pub fn text(self) -> &'static str {
+        ["fresh", "read", "write", "dma", "line", "run"][self as usize]
+    }
+
+    /// The memories that such a call is lent.
+    pub fn lent(self) -> &'static [Name] {
+        match self {
+            Kind::Fresh => &[Unit],
+            Kind::Read | Kind::Write => &[Unit, Left, Right, Nametables, Oam, Palette],
+            Kind::Dma => &[Unit, Oam, Page],
+            Kind::Line | Kind::Run => &[Unit, Left, Right, Nametables, Oam, Line],
+        }
+    }
+
+    /// Line and run, which an archive may not have yet.
+    pub fn runs_lines(self) -> bool {
+        matches!(self, Kind::Line | Kind::Run)
+    }
+}
+
+/// A call and its arguments; `byte` is the board of fresh, `most` the lines of run.
+#[derive(Clone, Debug, PartialEq, Eq)]
+pub struct Call {
+    pub kind: Kind,
+    pub address: u16,
+    pub byte: u8,
+    pub most: u16,
+    pub lengths: [usize; 8],
+}
+
+macro_rules! performed {
+    ($side:path, $call:expr, $world:expr) => {{
+        use $side as side;
+        let (call, lengths) = ($call, $call.lengths);
+        let [unit, left, right, nametables, oam, palette, line, page] = &mut $world.0;
+        let unit = &mut unit.bytes_mut()[..lengths[0]];
+        let left = &mut left.bytes_mut()[..lengths[1]];
+        let right = &mut right.bytes_mut()[..lengths[2]];
+        let nametables = &mut nametables.bytes_mut()[..lengths[3]];
+        let oam = &mut oam.bytes_mut()[..lengths[4]];
+        let palette = &mut palette.bytes_mut()[..lengths[5]];
+        let line = &mut line.bytes_mut()[..lengths[6]];
+        let page = &mut page.bytes_mut()[..lengths[7]];
+        u64::from(match call.kind {
+            Kind::Fresh => side::fresh(unit, call.byte),
+            Kind::Read => side::read(unit, call.address, left, right, nametables, oam, palette),
+            Kind::Write => side::write(unit, call.address, call.byte, left, right, nametables, oam, palette),
+            Kind::Dma => side::dma(unit, oam, page),
+            Kind::Line => side::line(unit, left, right, nametables, oam, line),
+            Kind::Run => side::run(unit, call.most, left, right, nametables, oam, line),
+        })
+    }};
+}
+
+impl Call {
+    pub fn new(kind: Kind) -> Call {
+        Call { kind, address: 0x2000, byte: 0, most: 0, lengths: LENGTHS }
+    }
+
+    pub fn fresh(board: u8) -> Call {
+        Call { byte: board, ..Call::new(Kind::Fresh) }
+    }
+
+    pub fn read(address: u16) -> Call {
+        Call { address, ..Call::new(Kind::Read) }
+    }
+
+    pub fn write(address: u16, byte: u8) -> Call {
+        Call { address, byte, ..Call::new(Kind::Write) }
+    }
+
+    pub fn dma() -> Call {
+        Call::new(Kind::Dma)
+    }
+
+    pub fn line() -> Call {
+        Call::new(Kind::Line)
+    }
+
+    pub fn run(most: u16) -> Call {
+        Call { most, ..Call::new(Kind::Run) }
+    }
+
+    pub fn with_length(mut self, name: Name, length: usize) -> Call {
+        self.lengths[name as usize] = length;
+        self
+    }
+
+    pub fn on_library(&self, world: &mut World) -> u64 {
+        performed!(library, self, world)
+    }
+
+    pub fn on_second(&self, world: &mut World) -> u64 {
+        performed!(second::calls, self, world)
+    }
+}

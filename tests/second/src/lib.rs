@@ -1,0 +1,18 @@
+//! A second picture unit, written from document 01 alone, to hold the library against.
+//!
+//! Nothing here is shared with the library. It works pixel by pixel and takes each rule as the
+//! document words it; speed is no aim.
+//!
+//! * `unit`: the unit, its record of 16 bytes, and what each port does
+//! * `memory`: the lent memories and where an address leads
+//! * `picture`: the pixels of one line, and what a line does to the unit
+//! * `calls`: fresh, read, write, dma, line, run on a record and byte slices, refusals included
+//! * `log`: the player of logs
+
+pub mod calls;
+pub mod log;
+pub mod memory;
+pub mod picture;
+pub mod unit;
+
+pub use calls::{Answer, Refusal};

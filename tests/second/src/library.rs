@@ -1,0 +1,215 @@
+//! The library's C interface, as calls on slices that answer the packed number.
+//!
+//! `cfg(lines)` says that the archive has `ppu_line` and `ppu_run`.
+
+#![allow(clippy::too_many_arguments)]
+
+extern "C" {
+    fn ppu_fresh(unit: *mut u8, unit_size: usize, board: u8) -> u64;
+    fn ppu_read(
+        unit: *mut u8,
+        unit_size: usize,
+        address: u16,
+        left: *const u8,
+        left_size: usize,
+        right: *const u8,
+        right_size: usize,
+        nametables: *const u8,
+        nametables_size: usize,
+        oam: *const u8,
+        oam_size: usize,
+        palette: *const u8,
+        palette_size: usize,
+    ) -> u64;
+    fn ppu_write(
+        unit: *mut u8,
+        unit_size: usize,
+        address: u16,
+        byte: u8,
+        left: *mut u8,
+        left_size: usize,
+        right: *mut u8,
+        right_size: usize,
+        nametables: *mut u8,
+        nametables_size: usize,
+        oam: *mut u8,
+        oam_size: usize,
+        palette: *mut u8,
+        palette_size: usize,
+    ) -> u64;
+    fn ppu_dma(
+        unit: *mut u8,
+        unit_size: usize,
+        oam: *mut u8,
+        oam_size: usize,
+        page: *const u8,
+        page_size: usize,
+    ) -> u64;
+}
+
+#[cfg(lines)]
+extern "C" {
+    fn ppu_line(
+        unit: *mut u8,
+        unit_size: usize,
+        left: *const u8,
+        left_size: usize,
+        right: *const u8,
+        right_size: usize,
+        nametables: *const u8,
+        nametables_size: usize,
+        oam: *const u8,
+        oam_size: usize,
+        line: *mut u8,
+        line_size: usize,
+    ) -> u64;
+    fn ppu_run(
+        unit: *mut u8,
+        unit_size: usize,
+        most: u16,
+        left: *const u8,
+        left_size: usize,
+        right: *const u8,
+        right_size: usize,
+        nametables: *const u8,
+        nametables_size: usize,
+        oam: *const u8,
+        oam_size: usize,
+        line: *mut u8,
+        line_size: usize,
+    ) -> u64;
+}
+
+pub const LINES: bool = cfg!(lines);
+
+pub fn fresh(unit: &mut [u8], board: u8) -> u64 {
+    unsafe { ppu_fresh(unit.as_mut_ptr(), unit.len(), board) }
+}
+
+pub fn read(
+    unit: &mut [u8],
+    address: u16,
+    left: &[u8],
+    right: &[u8],
+    nametables: &[u8],
+    oam: &[u8],
+    palette: &[u8],
+) -> u64 {
+    unsafe {
+        ppu_read(
+            unit.as_mut_ptr(),
+            unit.len(),
+            address,
+            left.as_ptr(),
+            left.len(),
+            right.as_ptr(),
+            right.len(),
+            nametables.as_ptr(),
+            nametables.len(),
+            oam.as_ptr(),
+            oam.len(),
+            palette.as_ptr(),
+            palette.len(),
+        )
+    }
+}
+
+pub fn write(
+    unit: &mut [u8],
+    address: u16,
+    byte: u8,
+    left: &mut [u8],
+    right: &mut [u8],
+    nametables: &mut [u8],
+    oam: &mut [u8],
+    palette: &mut [u8],
+) -> u64 {
+    unsafe {
+        ppu_write(
+            unit.as_mut_ptr(),
+            unit.len(),
+            address,
+            byte,
+            left.as_mut_ptr(),
+            left.len(),
+            right.as_mut_ptr(),
+            right.len(),
+            nametables.as_mut_ptr(),
+            nametables.len(),
+            oam.as_mut_ptr(),
+            oam.len(),
+            palette.as_mut_ptr(),
+            palette.len(),
+        )
+    }
+}
+
+pub fn dma(unit: &mut [u8], oam: &mut [u8], page: &[u8]) -> u64 {
+    unsafe { ppu_dma(unit.as_mut_ptr(), unit.len(), oam.as_mut_ptr(), oam.len(), page.as_ptr(), page.len()) }
+}
+
+#[cfg(lines)]
+pub fn line(
+    unit: &mut [u8],
+    left: &[u8],
+    right: &[u8],
+    nametables: &[u8],
+    oam: &[u8],
+    line: &mut [u8],
+) -> u64 {
+    unsafe {
+        ppu_line(
+            unit.as_mut_ptr(),
+            unit.len(),
+            left.as_ptr(),
+            left.len(),
+            right.as_ptr(),
+            right.len(),
+            nametables.as_ptr(),
+            nametables.len(),
+            oam.as_ptr(),
+            oam.len(),
+            line.as_mut_ptr(),
+            line.len(),
+        )
+    }
+}
+
+#[cfg(lines)]
+pub fn run(
+    unit: &mut [u8],
+    most: u16,
+    left: &[u8],
+    right: &[u8],
+    nametables: &[u8],
+    oam: &[u8],
+    line: &mut [u8],
+) -> u64 {
+    unsafe {
+        ppu_run(
+            unit.as_mut_ptr(),
+            unit.len(),
+            most,
+            left.as_ptr(),
+            left.len(),
+            right.as_ptr(),
+            right.len(),
+            nametables.as_ptr(),
+            nametables.len(),
+            oam.as_ptr(),
+            oam.len(),
+            line.as_mut_ptr(),
+            line.len(),
+        )
+    }
+}
+
+#[cfg(not(lines))]
+pub fn line(_: &mut [u8], _: &[u8], _: &[u8], _: &[u8], _: &[u8], _: &mut [u8]) -> u64 {
+    unreachable!("the archive has no ppu_line")
+}
+
+#[cfg(not(lines))]
+pub fn run(_: &mut [u8], _: u16, _: &[u8], _: &[u8], _: &[u8], _: &[u8], _: &mut [u8]) -> u64 {
+    unreachable!("the archive has no ppu_run")
+}

@@ -1,0 +1,245 @@
+//! Replays captures on the library and on the second player.
+//!
+//!     replay FOLDER NAME..
+//!
+//! FOLDER has NAME.json, NAME.chr, NAME.l01 and NAME.num, decompressed. Both sides must agree in
+//! everything, and with the capture in each answer (but for status bit 5) and each pixel number.
+
+use second::log::Machine;
+use std::fs;
+use std::process::ExitCode;
+
+const WIDTH: usize = 256;
+const HEIGHT: usize = 240;
+
+/// The library on a machine's record and memory.
+struct Library(Machine);
+
+impl Library {
+    fn read(&mut self, address: u16) -> u64 {
+        let m = &mut self.0;
+        library::read(&mut m.unit, address, &m.left, &m.right, &m.nametables, &m.oam, &m.palette)
+    }
+
+    fn write(&mut self, address: u16, byte: u8) -> u64 {
+        let Machine { unit, left, right, nametables, oam, palette, .. } = &mut self.0;
+        library::write(unit, address, byte, left, right, nametables, oam, palette)
+    }
+
+    fn line(&mut self) -> u64 {
+        let m = &mut self.0;
+        library::line(&mut m.unit, &m.left, &m.right, &m.nametables, &m.oam, &mut m.line)
+    }
+
+    /// Runs that many lines by runs, each of which may stop early.
+    fn run(&mut self, mut lines: u16) {
+        let m = &mut self.0;
+        while lines > 0 {
+            let answer =
+                library::run(&mut m.unit, lines, &m.left, &m.right, &m.nametables, &m.oam, &mut m.line);
+            assert!(answer & 255 == 0 && answer >> 32 > 0, "a run of {lines} lines answered {answer:X}");
+            lines -= (answer >> 32) as u16;
+        }
+    }
+}
+
+struct Capture {
+    log: Vec<u8>,
+    pictures: Vec<u8>,
+    patterns: Vec<u8>,
+    unit: Vec<u8>,
+    palette: Vec<u8>,
+}
+
+/// The string that a key of the .json file has.
+fn field<'a>(json: &'a str, key: &str) -> &'a str {
+    let (_, rest) = json.split_once(&format!("\"{key}\": \"")).expect("the key is there");
+    rest.split_once('"').expect("the string ends").0
+}
+
+fn unhex(text: &str) -> Vec<u8> {
+    let pairs = (0..text.len()).step_by(2).map(|i| &text[i..i + 2]);
+    pairs.map(|pair| u8::from_str_radix(pair, 16).expect("two hex digits")).collect()
+}
+
+impl Capture {
+    fn load(folder: &str, name: &str) -> Capture {
+        let load = |kind: &str| {
+            fs::read(format!("{folder}/{name}.{kind}")).unwrap_or_else(|e| panic!("{name}.{kind}: {e}"))
+        };
+        let json = String::from_utf8(load("json")).expect("the .json file is text");
+        Capture {
+            log: load("l01"),
+            pictures: load("num"),
+            patterns: load("chr"),
+            unit: unhex(field(&json, "unit")),
+            palette: unhex(field(&json, "palette")),
+        }
+    }
+
+    fn start(&self) -> Machine {
+        let mut machine = Machine::new(0);
+        machine.unit.copy_from_slice(&self.unit);
+        machine.left.copy_from_slice(&self.patterns[..4096]);
+        machine.right.copy_from_slice(&self.patterns[4096..]);
+        machine.nametables.fill(0xFF);
+        machine.oam.fill(0xFF);
+        machine.palette.copy_from_slice(&self.palette);
+        machine
+    }
+}
+
+#[derive(Default)]
+struct Tally {
+    records: usize,
+    lines: usize,
+    reads: usize,
+    bit_5: usize,
+    pictures: usize,
+}
+
+struct Replay<'a> {
+    capture: &'a Capture,
+    library: Library,
+    second: Machine,
+    /// The library again, run by `ppu_run` and not line by line.
+    by_runs: Library,
+    /// Pictures begun so far, this one included.
+    begun: usize,
+    tally: Tally,
+}
+
+impl Replay<'_> {
+    fn read(&mut self, address: u16, captured: u8) -> Result<(), String> {
+        let library = self.library.read(address);
+        let second = u64::from(self.second.read(address));
+        self.by_runs.read(address);
+        if library != second {
+            return Err(format!("read {address:04X}: library {library:X}, second {second:X}"));
+        }
+        let byte = (library >> 8) as u8;
+        let apart = byte ^ captured;
+        let free = if address % 8 == 2 { 0x20 } else { 0 };
+        if library & 255 != 0 || apart & !free != 0 {
+            return Err(format!("read {address:04X}: answer {library:X}, the capture has {captured:02X}"));
+        }
+        self.tally.reads += 1;
+        self.tally.bit_5 += usize::from(apart != 0);
+        Ok(())
+    }
+
+    fn write(&mut self, address: u16, byte: u8) -> Result<(), String> {
+        let library = self.library.write(address, byte);
+        let second = u64::from(self.second.write(address, byte));
+        self.by_runs.write(address, byte);
+        if library != second || library & 255 != 0 {
+            return Err(format!("write {address:04X} {byte:02X}: library {library:X}, second {second:X}"));
+        }
+        Ok(())
+    }
+
+    fn line(&mut self) -> Result<(), String> {
+        let line = usize::from(self.second.next_line());
+        self.begun += usize::from(line == 0);
+        let (library, second) = (self.library.line(), u64::from(self.second.line()));
+        if library != second || self.library.0.line != self.second.line {
+            return Err(format!(
+                "line {line}: library {library:X}, second {second:X}, or their pixels differ"
+            ));
+        }
+        self.tally.lines += 1;
+        if line < HEIGHT && self.begun > 1 {
+            self.compare_pixels(line)?;
+        }
+        Ok(())
+    }
+
+    fn compare_pixels(&mut self, line: usize) -> Result<(), String> {
+        let picture = self.begun - 1;
+        let at = (picture * HEIGHT + line) * WIDTH;
+        let Some(captured) = self.capture.pictures.get(at..at + WIDTH) else { return Ok(()) };
+        let mut pairs = captured.iter().zip(&self.library.0.line);
+        if let Some(column) = pairs.position(|(a, b)| a != b) {
+            let (ours, theirs) = (self.library.0.line[column], captured[column]);
+            return Err(format!(
+                "picture {picture} line {line} column {column}: {ours}, the capture has {theirs}"
+            ));
+        }
+        self.tally.pictures += usize::from(line == HEIGHT - 1);
+        Ok(())
+    }
+
+    fn record(&mut self, record: &[u8]) -> Result<(), String> {
+        match *record {
+            [0, high, low, captured] => self.read(u16::from_be_bytes([high, low]), captured)?,
+            [1, high, low, byte] => self.write(u16::from_be_bytes([high, low]), byte)?,
+            [2, high, low, 0] => {
+                let lines = u16::from_be_bytes([high, low]);
+                (0..lines).try_for_each(|_| self.line())?;
+                self.by_runs.run(lines);
+            }
+            _ => return Err("no record of a log".into()),
+        }
+        let (library, second, runs) = (&self.library.0, &self.second, &self.by_runs.0);
+        if library != second || library != runs {
+            return Err("the units or memories differ".into());
+        }
+        self.tally.records += 1;
+        Ok(())
+    }
+}
+
+fn replay(capture: &Capture) -> Result<Tally, String> {
+    let mut replay = Replay {
+        capture,
+        library: Library(capture.start()),
+        second: capture.start(),
+        by_runs: Library(capture.start()),
+        begun: 0,
+        tally: Tally::default(),
+    };
+    for (number, record) in capture.log.chunks(4).enumerate() {
+        replay.record(record).map_err(|why| format!("record {number}: {why}"))?;
+    }
+    Ok(replay.tally)
+}
+
+/// Replays a capture and says how it went; whether all was equal.
+fn verdict(folder: &str, name: &str) -> bool {
+    let capture = Capture::load(folder, name);
+    let due = capture.pictures.len() / (WIDTH * HEIGHT) - 1;
+    match replay(&capture) {
+        Ok(tally) => {
+            println!(
+                "  {name}: {} records, {} lines, {} answers ({} apart in status bit 5), {} of {due} pictures",
+                tally.records, tally.lines, tally.reads, tally.bit_5, tally.pictures
+            );
+            tally.reads > 0 && tally.pictures == due
+        }
+        Err(why) => {
+            println!("  {name}: DIFFERENCE: {why}");
+            false
+        }
+    }
+}
+
+fn main() -> ExitCode {
+    if !library::LINES {
+        println!("the archive has no ppu_line and ppu_run: no capture can be replayed");
+        return ExitCode::FAILURE;
+    }
+    let mut words = std::env::args().skip(1);
+    let folder = &words.next().expect("the folder of the captures");
+    let names: Vec<String> = words.collect();
+    let equal = std::thread::scope(|scope| {
+        let replays: Vec<_> = names.iter().map(|name| scope.spawn(move || verdict(folder, name))).collect();
+        replays.into_iter().map(|r| r.join().unwrap_or(false)).filter(|&equal| equal).count()
+    });
+    let passed = equal == names.len() && equal > 0;
+    println!(
+        "replay: {equal} of {} captures: {}",
+        names.len(),
+        if passed { "no difference" } else { "FAILED" }
+    );
+    ExitCode::from(u8::from(!passed))
+}
