@@ -1,0 +1,324 @@
+/* Measures the calls of include/ppu.h and of the peer drawers on the same memory.
+     bench time ROUNDS   ns, the least of so many rounds; in a round the drawers take turns
+     bench count         does each piece of work once for each drawer, with a call of `mark` before each: for callgrind
+   First every piece of work is done by all drawers, and the program fails if two of them differ in a pixel, a record or a byte of memory. */
+#define _POSIX_C_SOURCE 199309L
+#include <stdio.h>
+#include <stdlib.h>
+#include <time.h>
+#include "drawers.h"
+#include "screens.h"
+
+/* MEMORY, as a drawer's call is lent it */
+#define TABLES m.left, sizeof m.left, m.right, sizeof m.right, m.nametables, sizeof m.nametables, m.oam, sizeof m.oam
+#define LINE m.line, sizeof m.line
+#define UNIT m.unit, sizeof m.unit
+#define PALETTE m.palette, sizeof m.palette
+
+/* PASSES: a pass does a piece of work by one drawer and gives the number of calls, or lines */
+typedef unsigned Pass(const Drawer *);
+
+static unsigned draw_lines(const Drawer *d)
+{
+    unsigned done = 0;
+    for (; done < 240; done += lines) {
+        memcpy(m.unit, start, sizeof start);
+        for (unsigned i = 0; i < lines; i++)
+            d->line(UNIT, TABLES, LINE);
+    }
+    return done;
+}
+
+/* ten pictures in calls of n lines */
+static unsigned run_lines(const Drawer *d, unsigned n)
+{
+    unsigned all = n > 2620 ? n : 2620;
+    memcpy(m.unit, start, sizeof start);
+    for (unsigned done = 0; done < all; done += n)
+        d->run(UNIT, (uint16_t)n, TABLES, LINE);
+    return all;
+}
+
+static unsigned run_1(const Drawer *d) { return run_lines(d, 1); }
+static unsigned run_262(const Drawer *d) { return run_lines(d, 262); }
+static unsigned run_2620(const Drawer *d) { return run_lines(d, 2620); }
+static unsigned run_26200(const Drawer *d) { return run_lines(d, 26200); }
+
+static unsigned run_none(const Drawer *d)
+{
+    for (int i = 0; i < 1000; i++)
+        d->run(UNIT, 0, TABLES, LINE);
+    return 1000;
+}
+
+static unsigned blank_lines(const Drawer *d)
+{
+    for (int i = 0; i < 50; i++) {
+        set_word(m.unit, PPU_AT_NEXT_LINE, 242);
+        for (int k = 0; k < 18; k++)
+            d->line(UNIT, TABLES, LINE);
+    }
+    return 50 * 18;
+}
+
+static unsigned reads(const Drawer *d, unsigned address)
+{
+    for (int i = 0; i < 1000; i++)
+        d->read(UNIT, (uint16_t)address, TABLES, PALETTE);
+    return 1000;
+}
+
+static unsigned read_status(const Drawer *d) { return reads(d, 0x2002); }
+static unsigned read_data(const Drawer *d) { return reads(d, 0x2007); }
+
+static void write_at(const Drawer *d, unsigned address, unsigned byte)
+{
+    d->write(UNIT, (uint16_t)address, (uint8_t)byte, TABLES, PALETTE);
+}
+
+static unsigned write_scroll(const Drawer *d)
+{
+    for (unsigned i = 0; i < 1000; i++)
+        write_at(d, 0x2005, i);
+    return 1000;
+}
+
+/* a page of nametable RAM, after its address */
+static unsigned write_data(const Drawer *d)
+{
+    write_at(d, 0x2006, 0x20);
+    write_at(d, 0x2006, 0x00);
+    for (unsigned i = 0; i < 1024; i++)
+        write_at(d, 0x2007, i);
+    return 1026;
+}
+
+static unsigned write_oam(const Drawer *d)
+{
+    for (unsigned i = 0; i < 1024; i++)
+        write_at(d, 0x2004, i);
+    return 1024;
+}
+
+static unsigned sprite_dma(const Drawer *d, unsigned oamaddr)
+{
+    m.unit[PPU_AT_OAMADDR] = (uint8_t)oamaddr;
+    for (unsigned i = 0; i < 100; i++)
+        d->dma(UNIT, m.oam, sizeof m.oam, m.page, sizeof m.page);
+    return 100;
+}
+
+static unsigned dma_from_0(const Drawer *d) { return sprite_dma(d, 0); }
+static unsigned dma_from_37(const Drawer *d) { return sprite_dma(d, 37); }
+
+/* WORK: how memory stands before it, and its pass. Calls are made with the screen off, so that none is refused. Runs are only ours. */
+typedef struct {
+    const char *name;
+    void (*set)(void);
+    Pass *pass;
+} Work;
+
+static const Work screens[] = {
+    { "off", screen_off, draw_lines },
+    { "background only", background_only, draw_lines },
+    { "text", text, draw_lines },
+    { "about three sprites a line", three_sprites, draw_lines },
+    { "eight sprites a line", eight_sprites, draw_lines },
+    { "eight of 8x16 a line, flipped", tall_sprites, draw_lines },
+    { "random", random_screen, draw_lines },
+};
+
+static const Work calls[] = {
+    { "`ppu_run` of 0 lines", screen_off, run_none },
+    { "`ppu_line` on lines 242 to 259", screen_off, blank_lines },
+    { "`ppu_read` of port 2", screen_off, read_status },
+    { "`ppu_read` of port 7", screen_off, read_data },
+    { "`ppu_write` to port 5", screen_off, write_scroll },
+    { "`ppu_write` to port 7", screen_off, write_data },
+    { "`ppu_write` to port 4", screen_off, write_oam },
+    { "`ppu_dma`, OAMADDR 0", screen_off, dma_from_0 },
+    { "`ppu_dma`, OAMADDR 37", screen_off, dma_from_37 },
+};
+
+static const Work runs[] = {
+    { "1", three_sprites, run_1 },
+    { "262", three_sprites, run_262 },
+    { "2,620", three_sprites, run_2620 },
+    { "26,200", three_sprites, run_26200 },
+};
+
+enum { SCREENS = sizeof screens / sizeof *screens, CALLS = sizeof calls / sizeof *calls, RUNS = sizeof runs / sizeof *runs };
+
+/* THE DRAWERS AGREE */
+static void differ(const Work *w, const Drawer *d, unsigned line)
+{
+    fprintf(stderr, "bench: %s and %s differ: %s, line %u\n", drawers[0].name, d->name, w->name, line);
+    exit(1);
+}
+
+/* the memory after each line of a screen, or after a whole pass */
+static void agree(const Work *w)
+{
+    static Machine before, after;
+    unsigned steps = w->pass == draw_lines ? 240 : 1;
+    w->set();
+    memcpy(m.unit, start, sizeof start);
+    for (unsigned i = 0; i < steps; i++) {
+        before = m;
+        for (int k = 0; k < DRAWERS; k++) {
+            m = before;
+            if (w->pass == draw_lines)
+                drawers[k].line(UNIT, TABLES, LINE);
+            else
+                w->pass(&drawers[k]);
+            if (k == 0)
+                after = m;
+            else if (memcmp(&m, &after, sizeof m))
+                differ(w, &drawers[k], i);
+        }
+    }
+}
+
+static void all_agree(const Work *work, int count)
+{
+    for (int i = 0; i < count; i++)
+        agree(&work[i]);
+}
+
+/* TIME */
+static double now(clockid_t clock)
+{
+    struct timespec t;
+    clock_gettime(clock, &t);
+    return (double)t.tv_sec * 1e9 + (double)t.tv_nsec;
+}
+
+/* the least that each piece of work took */
+static double of_screens[SCREENS][DRAWERS], of_calls[CALLS][DRAWERS], of_runs[RUNS][DRAWERS];
+
+/* A long pass is timed by the processor time of this process, which leaves out what others took of it meanwhile. */
+static void time_rounds(const Work *work, int count, double (*into)[DRAWERS], int by, int rounds, clockid_t clock)
+{
+    for (int i = 0; i < count; i++) {
+        work[i].set();
+        for (int r = 0; r <= rounds; r++)
+            for (int k = 0; k < by; k++) {
+                double before = now(clock);
+                unsigned n = work[i].pass(&drawers[k]);
+                double each = (now(clock) - before) / n;
+                if (r > 0 && (into[i][k] == 0 || each < into[i][k]))
+                    into[i][k] = each;
+            }
+    }
+}
+
+static void heads(const char *first, const char *ours, int ratios)
+{
+    printf("| %s | %s |", first, ours);
+    for (int k = 1; k < DRAWERS; k++)
+        printf(" %s |", drawers[k].name);
+    for (int k = 1; ratios && k < DRAWERS; k++)
+        printf(" / %s |", drawers[k].name);
+    printf("\n|---|");
+    for (int k = 0; k < (ratios ? 2 * DRAWERS - 1 : DRAWERS); k++)
+        printf("---|");
+    printf("\n");
+}
+
+static void print_screens(double (*ns)[DRAWERS])
+{
+    printf("\nns a line, and the ratio of `ppu_line` to each peer\n\n");
+    heads("screen", "`ppu_line`", 1);
+    for (int i = 0; i < SCREENS; i++) {
+        printf("| %s |", screens[i].name);
+        for (int k = 0; k < DRAWERS; k++)
+            printf(k ? " %.0f |" : " **%.0f** |", ns[i][k]);
+        for (int k = 1; k < DRAWERS; k++)
+            printf(" %.2f |", ns[i][0] / ns[i][k]);
+        printf("\n");
+    }
+}
+
+static void print_calls(double (*ns)[DRAWERS])
+{
+    printf("\nns a call, and millions of calls a second\n\n| call | ns | millions a second |");
+    for (int k = 1; k < DRAWERS; k++)
+        printf(" ns, %s |", drawers[k].name);
+    printf("\n|---|---|---|");
+    for (int k = 1; k < DRAWERS; k++)
+        printf("---|");
+    printf("\n");
+    for (int i = 0; i < CALLS; i++) {
+        printf("| %s | **%.1f** | %.1f |", calls[i].name, ns[i][0], 1000 / ns[i][0]);
+        for (int k = 1; k < DRAWERS; k++)
+            printf(" %.1f |", ns[i][k]);
+        printf("\n");
+    }
+}
+
+static void print_runs(double (*ns)[DRAWERS])
+{
+    printf("\n`ppu_run`, pictures with about three sprites a line: ns a line by the lines of one call\n\n");
+    printf("| lines a call | ns a line | of the ns a line with 262 |\n|---|---|---|\n");
+    for (int i = 0; i < RUNS; i++)
+        printf("| %s | %.1f | %.3f |\n", runs[i].name, ns[i][0], ns[i][0] / ns[1][0]);
+}
+
+enum { BLOCKS = 10 };
+
+/* A block of rounds. Each has the stack elsewhere in its page, so that no drawer's figure hangs on where its locals happen to lie. */
+static void time_block(int block, int rounds)
+{
+    volatile char room[1 + 400 * block];
+    (void)room;
+    time_rounds(screens, SCREENS, of_screens, DRAWERS, rounds, CLOCK_MONOTONIC);
+    time_rounds(calls, CALLS, of_calls, DRAWERS, rounds, CLOCK_MONOTONIC);
+    time_rounds(runs, RUNS, of_runs, 1, 2 + rounds / 20, CLOCK_PROCESS_CPUTIME_ID);
+}
+
+static void time_all(int rounds)
+{
+    for (int block = 0; block < BLOCKS; block++)
+        time_block(block, rounds / BLOCKS);
+    print_screens(of_screens);
+    print_calls(of_calls);
+    print_runs(of_runs);
+}
+
+/* COUNT */
+void mark(void);
+
+/* what stands on a line by itself of what is printed: the work's kind and name, and the calls or lines that a drawer did */
+static void count_all(const char *kind, const Work *work, int count, int by)
+{
+    for (int i = 0; i < count; i++) {
+        unsigned n = 0;
+        work[i].set();
+        mark();
+        for (int k = 0; k < by; k++)
+            n = work[i].pass(&drawers[k]);
+        printf("%s\t%s\t%u\n", kind, work[i].name, n);
+    }
+}
+
+int main(int argc, char **argv)
+{
+    const char *mode = argc > 1 ? argv[1] : "";
+    int rounds = argc > 2 ? atoi(argv[2]) : 0;
+    all_agree(screens, SCREENS);
+    all_agree(calls, CALLS);
+    all_agree(runs, RUNS - 1);
+    if (!strcmp(mode, "count")) {
+        count_all("screen", screens, SCREENS, DRAWERS);
+        count_all("call", calls, CALLS, DRAWERS);
+        count_all("run", runs, RUNS, 1);
+        mark();
+        return 0;
+    }
+    if (strcmp(mode, "time") || rounds < 10) {
+        fprintf(stderr, "usage: bench time ROUNDS (10 or more), or bench count\n");
+        return 2;
+    }
+    time_all(rounds);
+    return 0;
+}

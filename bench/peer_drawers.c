@@ -1,0 +1,135 @@
+/* Two ordinary C line drawers to measure against, on the 16-byte record and by the calls of include/ppu.h: the background a tile at a time,
+   then a line of sprites, then one pass that merges them. Compiled twice: -DPFX=plain_ works out each pixel by itself with eight shifts a
+   tile; -DPFX=table_ -DSPREAD takes eight pixels at a time from a table of 256 words. They set the measure of speed, not of truth. */
+#include "peer.h"
+#include <string.h>
+static inline int ok_board(u8 b){ return b<16 && (b&7)<4; }
+static inline int ok(const u8 *u){
+  return !(u[2]&31) && u[5]<128 && u[7]<128 && u[8]<8 && u[9]<2 && (u[12]|u[13]<<8)<262 && u[14]<2 && ok_board(u[15]); }
+#define RET(u,b,c) ((u64)(b)<<8 | (u64)(((u)[0]&(u)[2])>>7)<<16 | (u64)(c)<<32)
+static inline int drawing(const u8 *u){ int n=u[12]|u[13]<<8; return (u[1]&0x18) && (n<240||n==261); }
+static const u8 pagebit[4]={0x0C,0x0A,0x00,0x0F};   /* bit q: page of quarter q */
+static inline int cell(u8 board,int a){ return (a&1023) | ((pagebit[board&3]>>((a>>10)&3))&1)<<10; }
+static inline int pcell(int a){ a&=31; return (a&0x13)==0x10 ? a&15 : a; }
+static inline void addv(u8 *u){ int v=((u[4]|u[5]<<8)+((u[0]&4)?32:1))&0x7FFF; u[4]=v; u[5]=v>>8; }
+
+u64 ppu_fresh(u8 *u,size_t un,u8 board){
+  if(un!=16) return 2; 
+  if(!ok_board(board)) return 3;
+  memset(u,0,16); u[15]=board; return 0; }
+u64 ppu_read(u8 *u,size_t un,u16 ad,const u8 *l,size_t ln,const u8 *r,size_t rn,const u8 *n,size_t nn,const u8 *o,size_t on,const u8 *p,size_t pn){
+  if(un!=16||ln!=4096||rn!=4096||nn!=2048||on!=256||pn!=32) return 2;
+  if(!ok(u)) return 3;
+  if((ad>>13)!=1) return 1;
+  int port=ad&7;
+  if((port==4||port==7)&&drawing(u)) return 4;
+  switch(port){
+  case 2: u[11]=(u[2]&0xE0)|(u[11]&31); u[2]&=0x7F; u[9]=0; break;
+  case 4: u[11]=o[u[3]]&((u[3]&3)==2?0xE3:0xFF); break;
+  case 7: { int a=(u[4]|u[5]<<8)&0x3FFF;
+    if(a>=0x3F00) { u[11]=(u[11]&0xC0)|(p[pcell(a)]&((u[1]&1)?0x30:0x3F)); u[10]=n[cell(u[15],a)]; }
+    else { u[11]=u[10]; u[10]= a<0x1000?l[a]: a<0x2000?r[a&0xFFF]: n[cell(u[15],a)]; }
+    addv(u); } }
+  return RET(u,u[11],0);
+}
+u64 ppu_write(u8 *u,size_t un,u16 ad,u8 b,u8 *l,size_t ln,u8 *r,size_t rn,u8 *n,size_t nn,u8 *o,size_t on,u8 *p,size_t pn){
+  if(un!=16||ln!=4096||rn!=4096||nn!=2048||on!=256||pn!=32) return 2;
+  if(!ok(u)) return 3;
+  if((ad>>13)!=1) return 1;
+  int port=ad&7;
+  if(port==7&&drawing(u)) return 4;
+  u[11]=b;
+  if(!u[14] && (0x63>>port&1)) return RET(u,0,0);
+  switch(port){
+  case 0: u[0]=b; u[7]=(u[7]&0x73)|(b&3)<<2; break;
+  case 1: u[1]=b; break;
+  case 3: u[3]=b; break;
+  case 4: if(!drawing(u)) o[u[3]++]=b; break;
+  case 5: if(!u[9]){ u[6]=(u[6]&0xE0)|b>>3; u[8]=b&7; } else { u[6]=(u[6]&31)|(b&0x38)<<2; u[7]=(u[7]&0x0C)|(b&7)<<4|b>>6; } u[9]^=1; break;
+  case 6: if(!u[9]) u[7]=b&63; else { u[6]=b; u[4]=b; u[5]=u[7]; } u[9]^=1; break;
+  case 7: { int a=(u[4]|u[5]<<8)&0x3FFF;
+    if(a>=0x3F00) p[pcell(a)]=b&63; else if(a>=0x2000) n[cell(u[15],a)]=b;
+    else if(u[15]&8) { if(a<0x1000) l[a]=b; else r[a&0xFFF]=b; }
+    addv(u); } }
+  return RET(u,0,0);
+}
+u64 ppu_dma(u8 *u,size_t un,u8 *o,size_t on,const u8 *g,size_t gn){
+  if(un!=16||on!=256||gn!=256) return 2;
+  if(!ok(u)) return 3;
+  if(!drawing(u)){ int a=u[3]; memcpy(o+a,g,256-a); memcpy(o,g+256-a,a); }
+  u[11]=g[255]; return RET(u,0,0);
+}
+
+#ifdef SPREAD
+static u64 spread[256]; static int spread_ready;
+static void mkspread(void){ for(int i=0;i<256;i++){ u8 b[8]; for(int k=0;k<8;k++) b[k]=(i>>(7-k))&1; memcpy(&spread[i],b,8);} spread_ready=1; }
+#endif
+static void drawline(u8 *u,const u8 *l,const u8 *r,const u8 *nt,const u8 *o,u8 *line){
+  u8 bgb[33*8], sp[256+8]; int L=u[12], v=u[4]|u[5]<<8, ctl=u[0], mask=u[1], x=u[8], h=(ctl&32)?16:8;
+  int any=0, zero=0, i, k, n;
+#ifdef SPREAD
+  if(!spread_ready) mkspread();
+#endif
+  if(mask&8){
+    const u8 *tb=(ctl&16)?r:l; int fine=v>>12, row=v>>5&31, w=v, sh=(row&2)<<1; u8 *d=bgb;
+    for(i=0;i<33;i++,d+=8){
+      const u8 *page=nt+((pagebit[u[15]&3]>>(w>>10&3)&1)<<10);
+      int tile=page[w&0x3FF], at=page[0x3C0+(row>>2)*8+((w&31)>>2)]>>(sh+(w&2))&3;
+      int lo=tb[tile*16+fine], hi=tb[tile*16+8+fine];
+#ifdef SPREAD
+      u64 c=spread[lo]|spread[hi]<<1, m=spread[lo|hi]; c|=m*(u64)(at*4); memcpy(d,&c,8);
+#else
+      at*=4;
+      for(k=0;k<8;k++){ int c=(lo>>(7-k)&1)|(hi>>(7-k)&1)<<1; d[k]=c?c|at:0; }
+#endif
+      if((w&31)==31) w^=0x41F; else w++;
+    }
+    memcpy(line,bgb+x,256);
+    if(!(mask&2)) memset(line,0,8);
+  } else memset(line,0,256);
+  /* sprites */
+  int list[8], cnt=0, over=0;
+  for(n=0;n<64;n++){ int y=o[4*n];
+    if(L>0 && (unsigned)(L-1-y)<(unsigned)h && cnt<8) list[cnt++]=n;
+    over += (unsigned)(L-y)<(unsigned)h; }
+  if((mask&16)&&cnt){
+    memset(sp,0,sizeof sp);
+    for(i=cnt-1;i>=0;i--){ const u8 *s=o+4*list[i]; int rr=L-1-s[0], at=s[2], tile=s[1]; const u8 *tb; 
+      if(at&128) rr=h-1-rr;
+      if(h==8) tb=(ctl&8)?r:l; else { tb=(tile&1)?r:l; tile=(tile&~1)+(rr>>3); rr&=7; }
+      int lo=tb[tile*16+rr], hi=tb[tile*16+8+rr], base=0x10|(at&3)<<2|(at&32)|(list[i]==0?64:0);
+      u8 *d=sp+s[3];
+      if(lo|hi) any=1;
+      if(at&64) for(k=0;k<8;k++){ int c=(lo>>k&1)|(hi>>k&1)<<1; if(c) d[k]=base|c; }
+      else for(k=0;k<8;k++){ int c=(lo>>(7-k)&1)|(hi>>(7-k)&1)<<1; if(c) d[k]=base|c; }
+    }
+    if(any){ if(!(mask&4)) memset(sp,0,8);
+      if(line[255]) sp[255]&=~64;
+      for(i=0;i<256;i++){ u8 s=sp[i], b=line[i]; zero|=(s&64)&&b; line[i]=(s && !((s&32)&&b)) ? (s&31) : b; } }
+  }
+  if(zero) u[2]|=64;
+  if(over>8) u[2]|=32;
+  /* steps */
+  if((v&0x7000)!=0x7000) v+=0x1000; else { v&=0xFFF; int y=v>>5&31; if(y==29) v=(v&~0x3E0)^0x800; else if(y==31) v&=~0x3E0; else v+=32; }
+  v=(v&~0x41F)|((u[6]|u[7]<<8)&0x41F); u[4]=v; u[5]=v>>8; u[3]=0;
+}
+static inline void one(u8 *u,const u8 *l,const u8 *r,const u8 *nt,const u8 *o,u8 *line){
+  int L=u[12]|u[13]<<8;
+  if(L<240){ if(u[1]&0x18) drawline(u,l,r,nt,o,line); else memset(line,0,256); }
+  else if(L==241) u[2]|=128;
+  else if(L==261){ u[2]=0; u[14]=1; if(u[1]&0x18){ u[4]=u[6]; u[5]=u[7]; u[3]=0; } }
+  L= L==261?0:L+1; u[12]=L; u[13]=L>>8;
+}
+u64 ppu_line(u8 *u,size_t un,const u8 *l,size_t ln,const u8 *r,size_t rn,const u8 *n,size_t nn,const u8 *o,size_t on,u8 *b,size_t bn){
+  if(un!=16||ln!=4096||rn!=4096||nn!=2048||on!=256||bn!=256) return 2;
+  if(!ok(u)) return 3;
+  one(u,l,r,n,o,b); return RET(u,0,1);
+}
+u64 ppu_run(u8 *u,size_t un,u16 lines,const u8 *l,size_t ln,const u8 *r,size_t rn,const u8 *n,size_t nn,const u8 *o,size_t on,u8 *b,size_t bn){
+  u32 k=0, m=lines;
+  if(un!=16||ln!=4096||rn!=4096||nn!=2048||on!=256||bn!=256) return 2;
+  if(!ok(u)) return 3;
+  if(u[0]&128){ int p=u[12]|u[13]<<8; u32 f=(u32)((241-p+262)%262)+1; if(f<m) m=f; }
+  for(;k<m;k++) one(u,l,r,n,o,b);
+  return RET(u,0,k);
+}

@@ -1,0 +1,122 @@
+/* The memory that the calls are lent, and the seven kinds of screen. A screen is memory, the record before its first line, and how many lines
+   are drawn from there: those on which the sprites are as its name says. */
+#ifndef SCREENS_H
+#define SCREENS_H
+
+#include <stdint.h>
+#include <string.h>
+#include "ppu.h"
+
+typedef struct {
+    uint8_t left[PPU_PATTERN_LENGTH], right[PPU_PATTERN_LENGTH], nametables[PPU_NAMETABLE_LENGTH], oam[PPU_OAM_LENGTH];
+    uint8_t page[PPU_PAGE_LENGTH], line[PPU_LINE_LENGTH], palette[PPU_PALETTE_LENGTH], unit[PPU_RECORD_LENGTH];
+} Machine;
+
+static _Alignas(64) Machine m;
+
+/* the record before the first line, and the lines that are drawn from there */
+static uint8_t start[PPU_RECORD_LENGTH];
+static unsigned lines;
+
+static uint64_t seed;
+
+/* the next of a row of numbers, below a bound */
+static unsigned any(unsigned below)
+{
+    seed = seed * 6364136223846793005u + 1442695040888963407u;
+    return (unsigned)(seed >> 33) % below;
+}
+
+static void scatter(uint8_t *bytes, unsigned length)
+{
+    for (unsigned i = 0; i < length; i++)
+        bytes[i] = (uint8_t)any(256);
+}
+
+static void set_word(uint8_t *record, int at, unsigned number)
+{
+    record[at] = (uint8_t)(number % 256);
+    record[at + 1] = (uint8_t)(number / 256);
+}
+
+/* scattered tiles, nametables, palette and page, no sprite on the screen, and a warmed-up unit that is scrolled to somewhere */
+static void set_screen(unsigned control, unsigned mask, unsigned first, unsigned count)
+{
+    seed = 1;
+    scatter((uint8_t *)&m, sizeof m);
+    memset(m.oam, 0xFF, sizeof m.oam);
+    memset(start, 0, sizeof start);
+    start[PPU_AT_CONTROL] = (uint8_t)control;
+    start[PPU_AT_MASK] = (uint8_t)mask;
+    start[PPU_AT_FINE_X] = 3;
+    set_word(start, PPU_AT_V, 0x1000 + 0x0400 + 32 * 9 + 13);
+    set_word(start, PPU_AT_T, 0x1000 + 0x0400 + 32 * 9 + 13);
+    set_word(start, PPU_AT_NEXT_LINE, first);
+    start[PPU_AT_WARMED_UP] = 1;
+    start[PPU_AT_BOARD] = PPU_VERTICAL + PPU_WRITABLE;
+    lines = count;
+    memcpy(m.unit, start, sizeof start);
+}
+
+static void set_sprite(int i, unsigned y, unsigned attribute, unsigned x)
+{
+    m.oam[4 * i] = (uint8_t)y;
+    m.oam[4 * i + 1] = (uint8_t)any(256);
+    m.oam[4 * i + 2] = (uint8_t)attribute;
+    m.oam[4 * i + 3] = (uint8_t)x;
+}
+
+static void screen_off(void) { set_screen(0x10, 0x00, 0, 240); }
+
+static void background_only(void) { set_screen(0x10, 0x0A, 0, 240); }
+
+/* letters of one colour on an empty ground, one palette, no scroll; sprites are on and none is on the screen */
+static void text(void)
+{
+    set_screen(0x10, 0x1E, 0, 240);
+    memset(start + PPU_AT_V, 0, 5);
+    for (unsigned i = 0; i < sizeof m.right; i++)
+        m.right[i] &= (uint8_t)(i / 16 == 32 || i % 16 > 7 ? 0 : 0x7E);
+    for (unsigned page = 0; page < sizeof m.nametables; page += 1024) {
+        for (unsigned i = 0; i < 960; i++)
+            m.nametables[page + i] = (uint8_t)(any(5) ? 'A' + any(26) : ' ');
+        memset(m.nametables + page + 960, 0, 64);
+    }
+}
+
+/* 64 sprites of eight lines over 168 lines */
+static void three_sprites(void)
+{
+    set_screen(0x10, 0x1E, 32, 168);
+    for (int i = 0; i < 64; i++)
+        set_sprite(i, 24 + any(168), any(4) + 32 * any(2), any(256));
+}
+
+/* eight rows of eight, on lines 81 to 144 */
+static void eight_sprites(void)
+{
+    set_screen(0x10, 0x1E, 81, 64);
+    for (int i = 0; i < 64; i++)
+        set_sprite(i, 80 + 8 * (unsigned)(i / 8), any(4) + 32 * any(2), any(256));
+}
+
+/* eight rows of eight, sixteen lines high, flipped either way, both ways or not, on lines 81 to 208 */
+static void tall_sprites(void)
+{
+    set_screen(0x30, 0x1E, 81, 128);
+    for (int i = 0; i < 64; i++)
+        set_sprite(i, 80 + 16 * (unsigned)(i / 8), any(4) + 32 * any(8), any(256));
+}
+
+/* scattered sprites too, and a unit that could be any */
+static void random_screen(void)
+{
+    set_screen(0x08, 0x1E, 0, 240);
+    scatter(m.oam, sizeof m.oam);
+    set_word(start, PPU_AT_V, any(0x8000));
+    set_word(start, PPU_AT_T, any(0x8000));
+    start[PPU_AT_FINE_X] = (uint8_t)any(8);
+    start[PPU_AT_BOARD] = PPU_HORIZONTAL;
+}
+
+#endif
