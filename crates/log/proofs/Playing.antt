@@ -21,7 +21,8 @@ use Rattle.model.proofs.Scroll.{lt-or-ge}
 use Rattle.model.proofs.Calls.{restores, frame}
 use Rattle.model.proofs.Log.{run-line, text-short, text-first, state-first, ends-first}
 use Rattle.log.specs.declared.Played.{Played}
-use Rattle.log.specs.Play.{playMemory, playOutcome, Printable, IsStep, IsPlay, wholeBytes}
+use Rattle.answers.specs.Printable.{Printable}
+use Rattle.log.specs.Play.{playMemory, playOutcome, IsStep, IsPlay, wholeBytes}
 
 -- ONE ENTRY: what its call is lent, carried over to all the memory
 module _ (e : Entry) (u : Ppu) (x : Access) (l r n o p b : List ℕ) where

@@ -10,7 +10,7 @@ use Rattle.log.proofs.play.Statement.{statement}
 use Rattle.log.proofs.play.Tie as tie
 use Rattle.log.proofs.play.Reads as reads
 use Rattle.log.proofs.play.Lts as lts
-use Rattle.log.proofs.read_at.Reads as read-at-reads
+use Rattle.reader.proofs.read_at.Reads as read-at-reads
 use Rattle.log.proofs.play_one.Reads as play-one-reads
 
 abbrev Inv-loop : tie.InvT-loop

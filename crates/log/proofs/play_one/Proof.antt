@@ -5,7 +5,7 @@ use Rattle.log.proofs.play_one.Tie as tie
 use Rattle.log.proofs.play_one.Reads as reads
 use Rattle.log.proofs.play_one.Lts as lts
 use Rattle.log.proofs.play_entry.Reads as play-entry-reads
-use Rattle.log.proofs.put_text.Reads as put-text-reads
+use Rattle.answers.proofs.put_text.Reads as put-text-reads
 
 -- src/lib.rt:255:9
 play-entry-requires : tie.Need-play-entry-requires
