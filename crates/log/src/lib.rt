@@ -44,8 +44,8 @@ pub fn play_entry(
             ppu::write(u, address, byte, left, right, nametables, oam, palette)
         }
         Entry::Run(n) => ppu::run_all(u, n, left, right, nametables, oam, line),
-        Entry::End => registers::done(0, 0, u),
-        Entry::Refused(n) => registers::refused(n, u),
+        Entry::End => unit::done(0, 0, u),
+        Entry::Refused(n) => unit::refused(n, u),
     }
 }
 

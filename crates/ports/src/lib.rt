@@ -88,7 +88,7 @@ pub fn read(
 {
     let byte = read_byte(u, port, oam, palette);
     let next = read_unit(u, port, byte, left, right, nametables, palette);
-    registers::done(byte, 0, next)
+    unit::done(byte, 0, next)
 }
 
 // An accepted write's effect on the five memories.
@@ -106,7 +106,7 @@ fn write_memory(
     ensures { λ r. ⌜ accessCells (now (left .exit)) (now (right .exit)) (now (nametables .exit)) (now (oam .exit)) (now (palette .exit)) ≡
         wroteMemory port u byte (accessCells (now (left .entry)) (now (right .entry)) (now (nametables .entry)) (now (oam .entry)) (now (palette .entry))) ⌝ }
 {
-    let drawing = registers::drawing(u);
+    let drawing = unit::drawing(u);
     memory::write_video(u, port, byte, left, right, nametables, palette);
     memory::write_oam(u, port, byte, drawing, oam);
 }
@@ -128,7 +128,7 @@ pub fn write(
 {
     write_memory(u, port, byte, left, right, nametables, oam, palette);
     let next = registers::write_unit(u, port, byte);
-    registers::done(0, 0, next)
+    unit::done(0, 0, next)
 }
 
 // 256 writes of port 4 with the page's bytes in order.
@@ -140,7 +140,7 @@ fn copy_page(u: Ppu, oam: &mut [u8], page: &[u8]) -> Ppu
     let mut i: usize = 0;
     while i < 256 {
         let byte = page[i];
-        let drawing = registers::drawing(n);
+        let drawing = unit::drawing(n);
         memory::write_oam(n, 4, byte, drawing, oam);
         n = registers::write_unit(n, 4, byte);
         i += 1;
@@ -154,5 +154,5 @@ pub fn dma(u: Ppu, oam: &mut [u8], page: &[u8]) -> Access
     ensures { λ r. ⌜ dmaOutcome r (now (oam .exit)) ≡ dmaDone (now (page .entry)) (state u (dmaMemory (now (oam .entry)))) ⌝ }
 {
     let next = copy_page(u, oam, page);
-    registers::done(0, 0, next)
+    unit::done(0, 0, next)
 }

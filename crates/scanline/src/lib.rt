@@ -193,9 +193,9 @@ fn drawn_line(
     requires { ⌜ LineLengths (u .board) (now left) (now right) (now nametables) (now oam) (now line) × (isWellFormed u ≡ true) × (u .scanline < 240) ⌝ }
     ensures { λ r. ⌜ (r ≡ drawnUnit u (now (left .entry)) (now (right .entry)) (now (nametables .entry)) (now (oam .entry))) × (now (line .exit) ≡ picture u (now (left .entry)) (now (right .entry)) (now (nametables .entry)) (now (oam .entry))) ⌝ }
 {
-    if registers::rendering(u) {
+    if unit::rendering(u) {
         let f = draw(u, left, right, nametables, oam, line);
-        let v = registers::copy_side(u.t, registers::row_down(u.v));
+        let v = unit::copy_side(u.t, unit::row_down(u.v));
         let status = with_overflow(with_hit(u.status, f.hit), f.over);
         return Ppu {
             status: status,
@@ -227,7 +227,7 @@ pub fn one_line(
     if u.scanline < 240 {
         return drawn_line(u, left, right, nametables, oam, line);
     }
-    registers::blank_line(u)
+    unit::blank_line(u)
 }
 
 // n lines.

@@ -7,8 +7,8 @@ use Rattle.log.proofs.play_entry.Lts as lts
 use Rattle.ppu.proofs.run_all.Reads as run-all-reads
 use Rattle.ppu.proofs.read.Reads as read-reads
 use Rattle.ppu.proofs.write.Reads as write-reads
-use Rattle.registers.proofs.done.Reads as done-reads
-use Rattle.registers.proofs.refused.Reads as refused-reads
+use Rattle.unit.proofs.done.Reads as done-reads
+use Rattle.unit.proofs.refused.Reads as refused-reads
 
 -- src/lib.rt:228:21
 enum-known-e : tie.Need-enum-known-e

@@ -6,7 +6,7 @@ use Rattle.ports.proofs.copy_page.Tie as tie
 use Rattle.ports.proofs.copy_page.Reads as reads
 use Rattle.ports.proofs.copy_page.Lts as lts
 use Rattle.memory.proofs.write_oam.Reads as write-oam-reads
-use Rattle.registers.proofs.drawing.Reads as drawing-reads
+use Rattle.unit.proofs.drawing.Reads as drawing-reads
 use Rattle.registers.proofs.write_unit.Reads as write-unit-reads
 
 abbrev Inv-loop : tie.InvT-loop

@@ -5,7 +5,7 @@ use Rattle.ports.proofs.dma.Tie as tie
 use Rattle.ports.proofs.dma.Reads as reads
 use Rattle.ports.proofs.dma.Lts as lts
 use Rattle.ports.proofs.copy_page.Reads as copy-page-reads
-use Rattle.registers.proofs.done.Reads as done-reads
+use Rattle.unit.proofs.done.Reads as done-reads
 
 -- src/lib.rt:156:9
 copy-page-requires : tie.Need-copy-page-requires

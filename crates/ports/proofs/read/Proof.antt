@@ -6,7 +6,7 @@ use Rattle.ports.proofs.read.Reads as reads
 use Rattle.ports.proofs.read.Lts as lts
 use Rattle.ports.proofs.read_byte.Reads as read-byte-reads
 use Rattle.ports.proofs.read_unit.Reads as read-unit-reads
-use Rattle.registers.proofs.done.Reads as done-reads
+use Rattle.unit.proofs.done.Reads as done-reads
 
 -- src/lib.rt:89:9
 read-byte-requires : tie.Need-read-byte-requires

@@ -7,7 +7,7 @@ use Rattle.ppu.proofs.dma.Lts as lts
 use Rattle.ports.proofs.dma.Reads as dma-reads
 use Rattle.ppu.proofs.dma_sizes.Reads as dma-sizes-reads
 use Rattle.ppu.proofs.plain_refusal.Reads as plain-refusal-reads
-use Rattle.registers.proofs.refused.Reads as refused-reads
+use Rattle.unit.proofs.refused.Reads as refused-reads
 
 -- src/lib.rt:252:9
 dma-sizes-requires : tie.Need-dma-sizes-requires

@@ -7,7 +7,7 @@ use Rattle.ppu.proofs.dma_record.Lts as lts
 use Rattle.ppu.proofs.dma.Reads as dma-reads
 use Rattle.ppu.proofs.dma_sizes.Reads as dma-sizes-reads
 use Rattle.ppu.proofs.load.Reads as load-reads
-use Rattle.registers.proofs.refused.Reads as refused-reads
+use Rattle.unit.proofs.refused.Reads as refused-reads
 
 -- src/lib.rt:425:9
 load-requires : tie.Need-load-requires

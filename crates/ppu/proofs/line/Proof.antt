@@ -6,8 +6,8 @@ use Rattle.ppu.proofs.line.Reads as reads
 use Rattle.ppu.proofs.line.Lts as lts
 use Rattle.ppu.proofs.line_sizes.Reads as line-sizes-reads
 use Rattle.ppu.proofs.plain_refusal.Reads as plain-refusal-reads
-use Rattle.registers.proofs.done.Reads as done-reads
-use Rattle.registers.proofs.refused.Reads as refused-reads
+use Rattle.unit.proofs.done.Reads as done-reads
+use Rattle.unit.proofs.refused.Reads as refused-reads
 use Rattle.scanline.proofs.one_line.Reads as one-line-reads
 
 -- src/lib.rt:305:9

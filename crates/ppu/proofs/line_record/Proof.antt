@@ -7,7 +7,7 @@ use Rattle.ppu.proofs.line_record.Lts as lts
 use Rattle.ppu.proofs.line.Reads as line-reads
 use Rattle.ppu.proofs.line_sizes.Reads as line-sizes-reads
 use Rattle.ppu.proofs.load.Reads as load-reads
-use Rattle.registers.proofs.refused.Reads as refused-reads
+use Rattle.unit.proofs.refused.Reads as refused-reads
 
 -- src/lib.rt:595:9
 load-requires : tie.Need-load-requires

@@ -4,7 +4,7 @@ use Rattle.ppu.proofs.plain_refusal.Statement.{statement}
 use Rattle.ppu.proofs.plain_refusal.Tie as tie
 use Rattle.ppu.proofs.plain_refusal.Reads as reads
 use Rattle.ppu.proofs.plain_refusal.Lts as lts
-use Rattle.registers.proofs.well_formed.Reads as well-formed-reads
+use Rattle.unit.proofs.well_formed.Reads as well-formed-reads
 
 -- src/lib.rt:169:12
 well-formed-requires : tie.Need-well-formed-requires

@@ -8,7 +8,7 @@ use Rattle.ports.proofs.read.Reads as read-reads
 use Rattle.ppu.proofs.access_refusal.Reads as access-refusal-reads
 use Rattle.ppu.proofs.access_sizes.Reads as access-sizes-reads
 use Rattle.ppu.proofs.blocked_read.Reads as blocked-read-reads
-use Rattle.registers.proofs.refused.Reads as refused-reads
+use Rattle.unit.proofs.refused.Reads as refused-reads
 
 -- src/lib.rt:202:9
 access-sizes-requires : tie.Need-access-sizes-requires

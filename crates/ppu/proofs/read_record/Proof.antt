@@ -7,7 +7,7 @@ use Rattle.ppu.proofs.read_record.Lts as lts
 use Rattle.ppu.proofs.access_sizes.Reads as access-sizes-reads
 use Rattle.ppu.proofs.load.Reads as load-reads
 use Rattle.ppu.proofs.read.Reads as read-reads
-use Rattle.registers.proofs.refused.Reads as refused-reads
+use Rattle.unit.proofs.refused.Reads as refused-reads
 
 -- src/lib.rt:319:9
 load-requires : tie.Need-load-requires

@@ -7,7 +7,7 @@ use Rattle.ppu.proofs.run.Lts as lts
 use Rattle.ppu.proofs.line_sizes.Reads as line-sizes-reads
 use Rattle.ppu.proofs.plain_refusal.Reads as plain-refusal-reads
 use Rattle.ppu.proofs.run_done.Reads as run-done-reads
-use Rattle.registers.proofs.refused.Reads as refused-reads
+use Rattle.unit.proofs.refused.Reads as refused-reads
 use Rattle.scanline.proofs.nmi_count.Reads as nmi-count-reads
 
 -- src/lib.rt:353:9

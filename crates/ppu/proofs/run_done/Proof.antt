@@ -4,7 +4,7 @@ use Rattle.ppu.proofs.run_done.Statement.{statement}
 use Rattle.ppu.proofs.run_done.Tie as tie
 use Rattle.ppu.proofs.run_done.Reads as reads
 use Rattle.ppu.proofs.run_done.Lts as lts
-use Rattle.registers.proofs.done.Reads as done-reads
+use Rattle.unit.proofs.done.Reads as done-reads
 use Rattle.scanline.proofs.run.Reads as run-reads
 
 -- src/lib.rt:335:9

@@ -7,7 +7,7 @@ use Rattle.ppu.proofs.run_record.Lts as lts
 use Rattle.ppu.proofs.line_sizes.Reads as line-sizes-reads
 use Rattle.ppu.proofs.load.Reads as load-reads
 use Rattle.ppu.proofs.run.Reads as run-reads
-use Rattle.registers.proofs.refused.Reads as refused-reads
+use Rattle.unit.proofs.refused.Reads as refused-reads
 
 -- src/lib.rt:648:9
 load-requires : tie.Need-load-requires

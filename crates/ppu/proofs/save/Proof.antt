@@ -5,9 +5,9 @@ use Rattle.ppu.proofs.save.Tie as tie
 use Rattle.ppu.proofs.save.Reads as reads
 use Rattle.ppu.proofs.save.Lts as lts
 use Rattle.record.proofs.put.Reads as put-reads
-use Rattle.registers.proofs.done.Reads as done-reads
-use Rattle.registers.proofs.refused.Reads as refused-reads
-use Rattle.registers.proofs.well_formed.Reads as well-formed-reads
+use Rattle.unit.proofs.done.Reads as done-reads
+use Rattle.unit.proofs.refused.Reads as refused-reads
+use Rattle.unit.proofs.well_formed.Reads as well-formed-reads
 
 -- src/lib.rt:86:9
 refused-requires : tie.Need-refused-requires

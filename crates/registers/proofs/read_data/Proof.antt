@@ -1,3 +1,4 @@
+use Rattle.registers.proofs.Cases.{data-1}
 use borrow.Author.Needs.{needs}
 use Rattle.registers.proofs.read_data.Statement.{statement}
 use Rattle.registers.proofs.read_data.Tie as tie
@@ -11,7 +12,7 @@ step-requires c κs = search needs
 
 -- src/lib.rt:298:1
 returns : tie.Need-returns
-returns c = cc
+returns c = search (data-1)
 
 pub read-data-spec : {M : Type 1} → statement M
 read-data-spec = tie.close (tie.spec step-requires returns)

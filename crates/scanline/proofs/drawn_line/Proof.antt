@@ -5,9 +5,9 @@ use Rattle.scanline.proofs.drawn_line.Tie as tie
 use Rattle.scanline.proofs.drawn_line.Reads as reads
 use Rattle.scanline.proofs.drawn_line.Lts as lts
 use Rattle.pixels.proofs.clear.Reads as clear-reads
-use Rattle.registers.proofs.copy_side.Reads as copy-side-reads
-use Rattle.registers.proofs.rendering.Reads as rendering-reads
-use Rattle.registers.proofs.row_down.Reads as row-down-reads
+use Rattle.unit.proofs.copy_side.Reads as copy-side-reads
+use Rattle.unit.proofs.rendering.Reads as rendering-reads
+use Rattle.unit.proofs.row_down.Reads as row-down-reads
 use Rattle.scanline.proofs.draw.Reads as draw-reads
 use Rattle.scanline.proofs.with_hit.Reads as with-hit-reads
 use Rattle.scanline.proofs.with_overflow.Reads as with-overflow-reads

@@ -4,7 +4,7 @@ use Rattle.scanline.proofs.one_line.Statement.{statement}
 use Rattle.scanline.proofs.one_line.Tie as tie
 use Rattle.scanline.proofs.one_line.Reads as reads
 use Rattle.scanline.proofs.one_line.Lts as lts
-use Rattle.registers.proofs.blank_line.Reads as blank-line-reads
+use Rattle.unit.proofs.blank_line.Reads as blank-line-reads
 use Rattle.scanline.proofs.drawn_line.Reads as drawn-line-reads
 
 -- src/lib.rt:214:9

@@ -1,9 +1,9 @@
-use Rattle.registers.proofs.Cases.{rendering-1}
+use Rattle.unit.proofs.Cases.{rendering-1}
 use borrow.Author.Needs.{needs}
-use Rattle.registers.proofs.rendering.Statement.{statement}
-use Rattle.registers.proofs.rendering.Tie as tie
-use Rattle.registers.proofs.rendering.Reads as reads
-use Rattle.registers.proofs.rendering.Lts as lts
+use Rattle.unit.proofs.rendering.Statement.{statement}
+use Rattle.unit.proofs.rendering.Tie as tie
+use Rattle.unit.proofs.rendering.Reads as reads
+use Rattle.unit.proofs.rendering.Lts as lts
 use Rattle.bits.proofs.field.Reads as field-reads
 
 -- src/lib.rt:40:5

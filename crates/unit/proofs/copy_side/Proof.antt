@@ -1,9 +1,9 @@
-use Rattle.registers.proofs.Cases.{side-1}
+use Rattle.unit.proofs.Cases.{side-1}
 use borrow.Author.Needs.{needs}
-use Rattle.registers.proofs.copy_side.Statement.{statement}
-use Rattle.registers.proofs.copy_side.Tie as tie
-use Rattle.registers.proofs.copy_side.Reads as reads
-use Rattle.registers.proofs.copy_side.Lts as lts
+use Rattle.unit.proofs.copy_side.Statement.{statement}
+use Rattle.unit.proofs.copy_side.Tie as tie
+use Rattle.unit.proofs.copy_side.Reads as reads
+use Rattle.unit.proofs.copy_side.Lts as lts
 use Rattle.bits.proofs.low16.Reads as low16-reads
 
 -- src/lib.rt:156:14

@@ -1,11 +1,11 @@
-use Rattle.registers.proofs.Cases.{right-cases}
+use Rattle.unit.proofs.Cases.{right-cases}
 use borrow.Author.Needs.{needs}
-use Rattle.registers.proofs.column_right.Statement.{statement}
-use Rattle.registers.proofs.column_right.Tie as tie
-use Rattle.registers.proofs.column_right.Reads as reads
-use Rattle.registers.proofs.column_right.Lts as lts
+use Rattle.unit.proofs.column_right.Statement.{statement}
+use Rattle.unit.proofs.column_right.Tie as tie
+use Rattle.unit.proofs.column_right.Reads as reads
+use Rattle.unit.proofs.column_right.Lts as lts
 use Rattle.bits.proofs.low16.Reads as low16-reads
-use Rattle.registers.proofs.turned_10.Reads as turned-10-reads
+use Rattle.unit.proofs.turned_10.Reads as turned-10-reads
 
 -- src/lib.rt:145:8
 low16-requires : tie.Need-low16-requires

@@ -1,11 +1,11 @@
-use Rattle.registers.proofs.Cases.{down-cases}
+use Rattle.unit.proofs.Cases.{down-cases}
 use borrow.Author.Needs.{needs}
-use Rattle.registers.proofs.row_down.Statement.{statement}
-use Rattle.registers.proofs.row_down.Tie as tie
-use Rattle.registers.proofs.row_down.Reads as reads
-use Rattle.registers.proofs.row_down.Lts as lts
+use Rattle.unit.proofs.row_down.Statement.{statement}
+use Rattle.unit.proofs.row_down.Tie as tie
+use Rattle.unit.proofs.row_down.Reads as reads
+use Rattle.unit.proofs.row_down.Lts as lts
 use Rattle.bits.proofs.low16.Reads as low16-reads
-use Rattle.registers.proofs.turned_11.Reads as turned-11-reads
+use Rattle.unit.proofs.turned_11.Reads as turned-11-reads
 
 -- src/lib.rt:126:8
 low16-requires : tie.Need-low16-requires

@@ -1,0 +1,135 @@
+-- The ways of each function: what a definition is under the tests that a way has passed. `search` finds the tests by itself.
+use Prim.Native.Nat.{ℕ, _+_, _-_, _*_, _/_, _%_, _<_, _≤_}
+use mathlib.Core.Path.{_≡_, refl, _∙_, ap}
+use mathlib.Core.Bool.{Bool, true, false, not}
+use native.Mathlib.Omega.{arith}
+use lib.Dec.{eqb, ltb}
+use borrow.Author.Tests.{eq-eqb, ne-eqb, lt-ltb, le-ltb}
+use Rattle.model.specs.declared.Ppu.{Ppu}
+use Rattle.model.specs.declared.Access.{Access}
+use Rattle.model.specs.Unit.{unit, withStatus, withScanline, bit, lastLine, isRendering, isDrawing, isWellFormed, nmiLevel}
+use Rattle.model.specs.Scroll.{turn10, turn11, rowDown, right, copySide}
+use Rattle.model.specs.Line.{idleLine, vblankLine, preRenderLine, blankUnit}
+use Rattle.model.specs.Calls.{answer, access, doneAnswer}
+
+pub rendering-1 : (u : Ppu) (k : ℕ) → k ≡ u .mask / 8 % 4 → not (eqb k 0) ≡ isRendering u
+unfolding isRendering
+rendering-1 u k e = rw e
+
+module _ (u : Ppu) (r : Bool) where
+  pub drawing-1 : r ≡ isRendering u → r ≡ true → u .scanline < 240 → true ≡ isDrawing u
+  unfolding isDrawing
+  drawing-1 e p q = rw (← e, p, lt-ltb (u .scanline) 240 q)
+
+  pub drawing-2 : r ≡ isRendering u → r ≡ true → 240 ≤ u .scanline → eqb (u .scanline) 261 ≡ isDrawing u
+  unfolding isDrawing
+  drawing-2 e p q = rw (← e, p, le-ltb (u .scanline) 240 q)
+
+  pub drawing-3 : r ≡ isRendering u → r ≡ false → false ≡ isDrawing u
+  unfolding isDrawing
+  drawing-3 e p = rw (← e, p)
+
+pub ruleset drawing-cases = (drawing-1, drawing-2, drawing-3)
+
+module _ (u : Ppu) where
+  pub formed-1 : (u .status % 32 ≡ 0 → ⊥) → false ≡ isWellFormed u
+  unfolding isWellFormed
+  formed-1 p = simp (ne-eqb _ _ p)
+
+  pub formed-2 : u .status % 32 ≡ 0 → 32768 ≤ u .v → false ≡ isWellFormed u
+  unfolding isWellFormed
+  formed-2 p q = simp (eq-eqb _ _ p, le-ltb _ _ q)
+
+  pub formed-3 : u .status % 32 ≡ 0 → u .v < 32768 → 32768 ≤ u .t → false ≡ isWellFormed u
+  unfolding isWellFormed
+  formed-3 p q r = simp (eq-eqb _ _ p, lt-ltb _ _ q, le-ltb _ _ r)
+
+  pub formed-4 : u .status % 32 ≡ 0 → u .v < 32768 → u .t < 32768 → 8 ≤ u .x → false ≡ isWellFormed u
+  unfolding isWellFormed
+  formed-4 p q r s = simp (eq-eqb _ _ p, lt-ltb _ _ q, lt-ltb _ _ r, le-ltb _ _ s)
+
+  pub formed-5 : u .status % 32 ≡ 0 → u .v < 32768 → u .t < 32768 → u .x < 8 → ltb (u .scanline) 262 ≡ isWellFormed u
+  unfolding isWellFormed
+  formed-5 p q r s = simp (eq-eqb _ _ p, lt-ltb _ _ q, lt-ltb _ _ r, lt-ltb _ _ s)
+
+pub ruleset formed-cases = (formed-1, formed-2, formed-3, formed-4, formed-5)
+
+module _ (u : Ppu) where
+  pub nmi-1 : u .status / 128 % 2 ≡ 1 → bit 128 (u .control) ≡ nmiLevel u
+  unfolding nmiLevel
+  nmi-1 p = simp (eq-eqb _ _ p)
+
+  pub nmi-2 : (u .status / 128 % 2 ≡ 1 → ⊥) → false ≡ nmiLevel u
+  unfolding nmiLevel
+  nmi-2 p = simp (ne-eqb _ _ p)
+
+pub ruleset nmi-cases = (nmi-1, nmi-2)
+
+-- v's steps, from the parts of v that the code took
+module _ (v r a : ℕ) (ea : a ≡ v / 4096 % 8) where
+  pub down-1 : a < 7 → r ≡ v + 4096 → r ≡ rowDown v
+  unfolding rowDown
+  down-1 p e = e ∙ rw (lt-ltb (v / 4096 % 8) 7 (omega arith))
+
+  module _ (f b : ℕ) (ef : f ≡ v % 4096) (eb : b ≡ v / 32 % 32) (high : 7 ≤ a) where
+    pub down-2 : b ≡ 29 → r ≡ turn11 (f - 928) → r ≡ rowDown v
+    unfolding rowDown
+    down-2 q e = e ∙ rw (ef, le-ltb (v / 4096 % 8) 7 (omega arith), eq-eqb (v / 32 % 32) 29 (omega arith))
+
+    pub down-3 : b ≡ 31 → r ≡ f - 992 → r ≡ rowDown v
+    unfolding rowDown
+    down-3 q e = e ∙ rw (ef, le-ltb (v / 4096 % 8) 7 (omega arith), ne-eqb (v / 32 % 32) 29 (λ z. omega arith), eq-eqb (v / 32 % 32) 31 (omega arith))
+
+    pub down-4 : (b ≡ 29 → ⊥) → (b ≡ 31 → ⊥) → r ≡ f + 32 → r ≡ rowDown v
+    unfolding rowDown
+    down-4 q q′ e = e ∙ rw (ef, le-ltb (v / 4096 % 8) 7 (omega arith), ne-eqb (v / 32 % 32) 29 (λ z. q (omega arith)), ne-eqb (v / 32 % 32) 31 (λ z. q′ (omega arith)))
+
+module _ (v r a : ℕ) (ea : a ≡ v % 32) where
+  pub right-1 : a ≡ 31 → r ≡ turn10 (v - 31) → r ≡ right v
+  unfolding right
+  right-1 p e = e ∙ rw (eq-eqb (v % 32) 31 (omega arith))
+
+  pub right-2 : (a ≡ 31 → ⊥) → r ≡ v + 1 → r ≡ right v
+  unfolding right
+  right-2 p e = e ∙ rw (ne-eqb (v % 32) 31 (λ z. p (omega arith)))
+
+pub side-1 : (t v r a b d : ℕ) → a ≡ v / 32 % 32 → b ≡ t / 1024 % 2 → d ≡ t % 32 → r ≡ v / 2048 * 2048 + a * 32 + b * 1024 + d → r ≡ copySide t v
+unfolding copySide
+side-1 t v r a b d ea eb ed e = e ∙ omega arith
+
+pub ruleset down-cases = (down-1, down-2, down-3, down-4)
+
+pub ruleset right-cases = (right-1, right-2)
+
+-- lines that draw nothing
+module _ (u r : Ppu) (d : Bool) where
+  pub pre-1 : d ≡ isRendering u → d ≡ true
+      → r ≡ unit (u .control) (u .mask) 0 0 (u .t) (u .t) (u .x) (u .w) (u .buffer) (u .latch) 0 true (u .board) → r ≡ preRenderLine u
+  unfolding preRenderLine
+  pre-1 e p g = g ∙ rw (← e, p)
+
+  pub pre-2 : d ≡ isRendering u → d ≡ false
+      → r ≡ unit (u .control) (u .mask) 0 (u .oamaddr) (u .v) (u .t) (u .x) (u .w) (u .buffer) (u .latch) 0 true (u .board) → r ≡ preRenderLine u
+  unfolding preRenderLine
+  pre-2 e p g = g ∙ rw (← e, p)
+
+pub ruleset pre-cases = (pre-1, pre-2)
+
+module _ (u r : Ppu) where
+  pub blank-1 : (k : ℕ) → u .scanline ≡ 241 → k ≡ u .status % 128 → r ≡ withScanline (withStatus u (k + 128)) (u .scanline + 1) → r ≡ blankUnit u
+  unfolding blankUnit vblankLine
+  blank-1 k p f e = e ∙ rw (f, eq-eqb (u .scanline) 241 p)
+
+  pub blank-2 : (u .scanline ≡ 241 → ⊥) → u .scanline ≡ 261 → r ≡ preRenderLine u → r ≡ blankUnit u
+  unfolding blankUnit
+  blank-2 p q e = e ∙ rw (ne-eqb (u .scanline) 241 p, eq-eqb (u .scanline) (lastLine (u .board)) q)
+
+  pub blank-3 : (u .scanline ≡ 241 → ⊥) → (u .scanline ≡ 261 → ⊥) → r ≡ withScanline u (u .scanline + 1) → r ≡ blankUnit u
+  unfolding blankUnit idleLine
+  blank-3 p q e = e ∙ rw (ne-eqb (u .scanline) 241 p, ne-eqb (u .scanline) (lastLine (u .board)) q)
+
+pub ruleset blank-cases = (blank-1, blank-2, blank-3)
+
+-- a call that is done, by the NMI level that the code found
+pub done-1 : (b k : ℕ) (u : Ppu) (n : Bool) (r : Access) → n ≡ nmiLevel u → r ≡ access (answer 0 b k n) u → r ≡ access (doneAnswer b k u) u
+done-1 b k u n r e f = f ∙ rw e

@@ -1,0 +1,198 @@
+// The unit by itself: Ppu -> Ppu, no memory. Inner functions, not public calls.
+// rendering, drawing, well_formed, nmi; v's steps: row_down, column_right, copy_side;
+// lines that draw nothing: blank_line; what a call hands back: done, refused.
+ghost use mathlib.Core.Path.{_≡_};
+ghost use Prim.Native.Nat.{ℕ, _+_, _*_, _/_, _%_, _<_};
+ghost use Rattle.model.specs.Unit.{isRendering, isDrawing, isWellFormed, nmiLevel};
+ghost use Rattle.model.specs.Scroll.{turn10, turn11, rowDown, right, copySide};
+ghost use Rattle.model.specs.Line.{preRenderLine, blankUnit};
+ghost use Rattle.model.specs.Calls.{access, doneAnswer, refusedAccess};
+use model::Access;
+use model::Answer;
+use model::Ppu;
+
+// Mask bit 3 or 4 is set.
+pub fn rendering(u: Ppu) -> bool
+    ensures { λ r. ⌜ r ≡ isRendering u ⌝ }
+{
+    bits::field(u.mask, 3, 2) != 0
+}
+
+// Mask bit 3 or 4 is set and next line is 0 to 239 or 261.
+pub fn drawing(u: Ppu) -> bool
+    ensures { λ r. ⌜ r ≡ isDrawing u ⌝ }
+{
+    if rendering(u) {
+        if u.scanline < 240 {
+            return true;
+        }
+        return u.scanline == 261;
+    }
+    false
+}
+
+// The unit is within the limits of its record.
+pub fn well_formed(u: Ppu) -> bool
+    ensures { λ r. ⌜ r ≡ isWellFormed u ⌝ }
+{
+    if u.status % 32 != 0 {
+        return false;
+    }
+    if u.v >= 32768 {
+        return false;
+    }
+    if u.t >= 32768 {
+        return false;
+    }
+    if u.x >= 8 {
+        return false;
+    }
+    u.scanline < 262
+}
+
+// Status bit 7 and control bit 7.
+pub fn nmi(u: Ppu) -> bool
+    ensures { λ r. ⌜ r ≡ nmiLevel u ⌝ }
+{
+    if u.status / 128 % 2 == 1 {
+        return u.control / 128 % 2 == 1;
+    }
+    false
+}
+
+// An address with bit 10 turned.
+fn turned_10(v: u16) -> u16
+    requires { ⌜ v < 32768 ⌝ }
+    ensures { λ r. ⌜ r ≡ turn10 v ⌝ }
+{
+    if bits::low16(v >> 10, 1) == 0 {
+        return v + 1024;
+    }
+    v - 1024
+}
+
+// The address of a row's first fine line, with bit 11 turned.
+fn turned_11(v: u16) -> u16
+    requires { ⌜ v < 4096 ⌝ }
+    ensures { λ r. ⌜ r ≡ turn11 v ⌝ }
+{
+    if bits::low16(v >> 11, 1) == 0 {
+        return v + 2048;
+    }
+    v - 2048
+}
+
+// v one row down.
+pub fn row_down(v: u16) -> u16
+    requires { ⌜ v < 32768 ⌝ }
+    ensures { λ r. ⌜ r ≡ rowDown v ⌝ }
+{
+    if bits::low16(v >> 12, 3) < 7 {
+        return v + 4096;
+    }
+    let first = bits::low16(v, 12);
+    let row = bits::low16(v >> 5, 5);
+    if row == 29 {
+        return turned_11(first - 928);
+    }
+    if row == 31 {
+        return first - 992;
+    }
+    first + 32
+}
+
+// v one column right.
+pub fn column_right(v: u16) -> u16
+    requires { ⌜ v < 32768 ⌝ }
+    ensures { λ r. ⌜ r ≡ right v ⌝ }
+{
+    if bits::low16(v, 5) == 31 {
+        return turned_10(v - 31);
+    }
+    v + 1
+}
+
+// v with bits 10 and 4-0 of t.
+pub fn copy_side(t: u16, v: u16) -> u16
+    requires { ⌜ v < 32768 ⌝ }
+    ensures { λ r. ⌜ r ≡ copySide t v ⌝ }
+{
+    let up = (v >> 11) * 2048 + bits::low16(v >> 5, 5) * 32;
+    up + bits::low16(t >> 10, 1) * 1024 + bits::low16(t, 5)
+}
+
+// The unit after line 261.
+fn pre_render(u: Ppu) -> Ppu
+    ensures { λ r. ⌜ r ≡ preRenderLine u ⌝ }
+{
+    if rendering(u) {
+        return Ppu {
+            status: 0,
+            oamaddr: 0,
+            v: u.t,
+            scanline: 0,
+            warm: true,
+            ..u
+        };
+    }
+    Ppu {
+        status: 0,
+        scanline: 0,
+        warm: true,
+        ..u
+    }
+}
+
+// The unit after a line from 240 on.
+pub fn blank_line(u: Ppu) -> Ppu
+    requires { ⌜ u .scanline < 262 ⌝ }
+    ensures { λ r. ⌜ r ≡ blankUnit u ⌝ }
+{
+    if u.scanline == 241 {
+        return Ppu {
+            status: bits::low8(u.status, 7) + 128,
+            scanline: u.scanline + 1,
+            ..u
+        };
+    }
+    if u.scanline == 261 {
+        return pre_render(u);
+    }
+    Ppu {
+        scanline: u.scanline + 1,
+        ..u
+    }
+}
+
+// A call that is done: its byte, its line count, and the NMI level after it.
+pub fn done(byte: u8, lines: u16, u: Ppu) -> Access
+    ensures { λ r. ⌜ r ≡ access (doneAnswer byte lines u) u ⌝ }
+{
+    let level = nmi(u);
+    let answer = Answer {
+        number: 0,
+        byte: byte,
+        lines: lines,
+        nmi: level,
+    };
+    Access {
+        answer: answer,
+        unit: u,
+    }
+}
+
+// A refused call: the unit stays.
+pub fn refused(number: u8, u: Ppu) -> Access
+    ensures { λ r. ⌜ r ≡ refusedAccess number u ⌝ }
+{
+    let answer = Answer {
+        number: number,
+        byte: 0,
+        lines: 0,
+        nmi: false,
+    };
+    Access {
+        answer: answer,
+        unit: u,
+    }
+}
