@@ -44,7 +44,7 @@ fn strip_at(board: Board, quarter: usize, v: usize) -> Strip
     ensures { λ r. ⌜ (r ≡ stripOf (board .wiring) quarter v) × Within r (nametableLength board) ⌝ }
 {
     let wiring = board.wiring;
-    let base = 1024 * memory::page(wiring, quarter);
+    let base = 1024 * address::page(wiring, quarter);
     let row = low(v >> 5, 5);
     let tiles = base + 32 * row;
     let attributes = base + 960 + 8 * (row >> 2);

@@ -6,7 +6,7 @@ use Rattle.background.proofs.strip_at.Tie as tie
 use Rattle.background.proofs.strip_at.Reads as reads
 use Rattle.background.proofs.strip_at.Lts as lts
 use Rattle.bits.proofs.low.Reads as low-reads
-use Rattle.memory.proofs.page.Reads as page-reads
+use Rattle.address.proofs.page.Reads as page-reads
 
 page-requires : tie.Need-page-requires
 page-requires c κs = search needs

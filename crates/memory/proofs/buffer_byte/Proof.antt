@@ -4,9 +4,9 @@ use Rattle.memory.proofs.buffer_byte.Statement.{statement}
 use Rattle.memory.proofs.buffer_byte.Tie as tie
 use Rattle.memory.proofs.buffer_byte.Reads as reads
 use Rattle.memory.proofs.buffer_byte.Lts as lts
-use Rattle.memory.proofs.cell.Reads as cell-reads
+use Rattle.address.proofs.cell.Reads as cell-reads
 use Rattle.memory.proofs.fetch.Reads as fetch-reads
-use Rattle.memory.proofs.lead.Reads as lead-reads
+use Rattle.address.proofs.lead.Reads as lead-reads
 
 -- src/lib.rt:143:13
 lead-requires : tie.Need-lead-requires

@@ -4,7 +4,7 @@ use Rattle.memory.proofs.palette_byte.Statement.{statement}
 use Rattle.memory.proofs.palette_byte.Tie as tie
 use Rattle.memory.proofs.palette_byte.Reads as reads
 use Rattle.memory.proofs.palette_byte.Lts as lts
-use Rattle.memory.proofs.palette_cell.Reads as palette-cell-reads
+use Rattle.address.proofs.palette_cell.Reads as palette-cell-reads
 
 -- src/lib.rt:157:27
 cast-palette-cell : tie.Need-cast-palette-cell

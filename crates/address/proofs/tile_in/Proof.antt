@@ -1,9 +1,9 @@
-use Rattle.memory.proofs.Cases.{tile-part}
+use Rattle.address.proofs.Cases.{tile-part}
 use borrow.Author.Needs.{needs}
-use Rattle.memory.proofs.tile_in.Statement.{statement}
-use Rattle.memory.proofs.tile_in.Tie as tie
-use Rattle.memory.proofs.tile_in.Reads as reads
-use Rattle.memory.proofs.tile_in.Lts as lts
+use Rattle.address.proofs.tile_in.Statement.{statement}
+use Rattle.address.proofs.tile_in.Tie as tie
+use Rattle.address.proofs.tile_in.Reads as reads
+use Rattle.address.proofs.tile_in.Lts as lts
 
 -- src/lib.rt:185:14
 mul-at : tie.Need-mul-at

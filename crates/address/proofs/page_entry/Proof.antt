@@ -1,9 +1,9 @@
-use Rattle.memory.proofs.Cases.{page-cases}
+use Rattle.address.proofs.Cases.{page-cases}
 use borrow.Author.Needs.{needs}
-use Rattle.memory.proofs.page_entry.Statement.{statement}
-use Rattle.memory.proofs.page_entry.Tie as tie
-use Rattle.memory.proofs.page_entry.Reads as reads
-use Rattle.memory.proofs.page_entry.Lts as lts
+use Rattle.address.proofs.page_entry.Statement.{statement}
+use Rattle.address.proofs.page_entry.Tie as tie
+use Rattle.address.proofs.page_entry.Reads as reads
+use Rattle.address.proofs.page_entry.Lts as lts
 
 -- src/lib.rt:56:5
 mul-result : tie.Need-mul-result

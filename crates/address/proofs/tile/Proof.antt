@@ -1,10 +1,10 @@
-use Rattle.memory.proofs.Cases.{tile-cases}
+use Rattle.address.proofs.Cases.{tile-cases}
 use borrow.Author.Needs.{needs}
-use Rattle.memory.proofs.tile.Statement.{statement}
-use Rattle.memory.proofs.tile.Tie as tie
-use Rattle.memory.proofs.tile.Reads as reads
-use Rattle.memory.proofs.tile.Lts as lts
-use Rattle.memory.proofs.tile_in.Reads as tile-in-reads
+use Rattle.address.proofs.tile.Statement.{statement}
+use Rattle.address.proofs.tile.Tie as tie
+use Rattle.address.proofs.tile.Reads as reads
+use Rattle.address.proofs.tile.Lts as lts
+use Rattle.address.proofs.tile_in.Reads as tile-in-reads
 
 -- src/lib.rt:194:16
 sub-result : tie.Need-sub-result
