@@ -1,0 +1,71 @@
+/* How much stack the calls need: they run on a stack of our own that was painted before, and the paint that is left is counted. */
+#define _XOPEN_SOURCE 700
+#include <pthread.h>
+#include "machine.h"
+
+enum { SIZE = 256 * 1024, PAINT = 0xA5, MOST = 4096 };
+
+static Machine m;
+static uint8_t *stack;
+
+/* memory for a stack */
+static uint8_t *aligned(void)
+{
+    void *bytes = NULL;
+    if (posix_memalign(&bytes, 4096, SIZE))
+        exit(2);
+    return bytes;
+}
+
+static void *nothing(void *unused) { return unused; }
+
+/* one picture of scattered memory, with sprites on every line, and every other call */
+static void *all_calls(void *unused)
+{
+    uint64_t sum = ppu_fresh(m.unit, 16, PPU_VERTICAL | PPU_WRITABLE);
+    sum += run_lines(&m, 262);
+    sum += sprite_dma(&m);
+    for (unsigned port = 0; port < 8; port++)
+        sum += write_at(&m, 0x2000 + port, 0x1E) + read_at(&m, 0x2000 + port);
+    sum += write_at(&m, 0x2001, 0x1E);
+    for (int i = 0; i < 262; i++)
+        sum += one_line(&m);
+    sum += run_lines(&m, 262);
+    m.page[0] = (uint8_t)sum;
+    return unused;
+}
+
+/* the bytes of the painted stack that a thread has written over */
+static size_t used_by(void *(*work)(void *))
+{
+    pthread_attr_t attributes;
+    pthread_t thread;
+    memset(stack, PAINT, SIZE);
+    pthread_attr_init(&attributes);
+    EXPECT(pthread_attr_setstack(&attributes, stack, SIZE), 0);
+    EXPECT(pthread_create(&thread, &attributes, work, NULL), 0);
+    EXPECT(pthread_join(thread, NULL), 0);
+    pthread_attr_destroy(&attributes);
+    size_t left = 0;
+    while (left < SIZE && stack[left] == PAINT)
+        left++;
+    return SIZE - left;
+}
+
+int main(void)
+{
+    stack = aligned();
+    m = machine();
+    scatter(&m, 7);
+    for (int i = 0; i < 256; i += 4)
+        m.page[i] = (uint8_t)(i / 2);
+    size_t alone = used_by(nothing), with_calls = used_by(all_calls);
+    EXPECT(m.unit[PPU_AT_MASK], 0x1E);
+    EXPECT(with_calls > alone, 1);
+    EXPECT(with_calls - alone < MOST, 1);
+    printf("  every call, lines with eight sprites too: %zu bytes of stack, %d allowed\n", with_calls - alone, MOST);
+    part("the calls' stack");
+    release(&m);
+    free(stack);
+    return verdict("tests/stack");
+}
