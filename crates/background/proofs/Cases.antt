@@ -17,8 +17,8 @@ use Rattle.model.proofs.Tab.{tab-more, tab-done}
 use Rattle.pixels.specs.Row.{storeTab}
 use Rattle.pixels.proofs.Store.{store-cong, store-split}
 use Rattle.background.specs.declared.Strip.{Strip}
-use Rattle.background.specs.Strips.{rowLength, stripOf, paletteOf, columnPixel, stripPixel, besideOf, shifted}
-use Rattle.background.proofs.Strips.{two-runs, line-is}
+use Rattle.background.specs.Strips.{rowLength, stripOf, paletteOf, columnPixel, stripPixel, besideOf, groupStart, shifted}
+use Rattle.background.proofs.Strips.{start-quarter, start-strip, two-runs, line-is}
 
 module _ (w : Wiring) (q v p r h f : ℕ) (s : Strip) where
   pub strip-1 : p ≡ pageAt (wiringNumber w) q → r ≡ row v → h ≡ r / 2 % 2 → f ≡ fineY v
@@ -118,15 +118,17 @@ module _ (b l l′ : List ℕ) (x p : ℕ) where
 pub ruleset shift-cases = (shift-more, shift-done)
 
 module _ (w : Wiring) (n table l l₁ l₂ : List ℕ) (v g q o : ℕ) (here there : Strip) where
-  pub tiles-1 : g ≡ v / 4 % 8 → v % 4 ≡ 0 → q ≡ nametable v → o ≡ besideOf q → here ≡ stripOf w q v → there ≡ stripOf w o v → length l ≡ rowLength
+  pub tiles-1 : g ≡ v / 4 % 8 → q ≡ nametable v → o ≡ q % 2 → here ≡ stripOf w q v → there ≡ stripOf w (q + 1 - 2 * o) v → length l ≡ rowLength
       → l₁ ≡ storeTab (stripPixel table n here (4 * g)) (32 * 0) (32 * (8 - g)) l
       → l₂ ≡ storeTab (stripPixel table n there (4 * 0)) (32 * (8 - g)) (32 * (g + 1)) l₁
-      → l₂ ≡ tab (backgroundAt w n table v 0) rowLength
-  tiles-1 a z b d e f h i j =
-      let c : 4 * g ≡ column v = omega arith in
-      let k : 32 * (8 - g) ≡ 8 * (32 - column v) = omega arith in
-      let m : 32 * (g + 1) ≡ 8 * (column v + 4) = omega arith in
-      two-runs w n table l l₁ l₂ v (32 - column v) z refl h (i ∙ rw (e, b, c, k)) (j ∙ rw (f, d, b, k, m))
+      → l₂ ≡ tab (backgroundAt w n table (groupStart v) 0) rowLength
+  tiles-1 a b d e f h i j =
+      let c : 4 * g ≡ column (groupStart v) = omega arith in
+      let k : 32 * (8 - g) ≡ 8 * (32 - column (groupStart v)) = omega arith in
+      let m : 32 * (g + 1) ≡ 8 * (column (groupStart v) + 4) = omega arith in
+      two-runs w n table l l₁ l₂ (groupStart v) (32 - column (groupStart v)) (omega arith) refl h
+      (i ∙ rw (e, b, c, k, ← start-quarter v, start-strip w (nametable v) v))
+      (j ∙ rw (f, d, b, k, m, ← start-quarter v, start-strip w (besideOf (nametable v)) v))
 
 pub ruleset tiles-cases = (tiles-1)
 
@@ -140,8 +142,8 @@ module _ (w : Wiring) (n left right l : List ℕ) (v m : ℕ) (second : Bool) wh
 pub ruleset tiles-of-cases = (tiles-of-1, tiles-of-2)
 
 module _ (w : Wiring) (n table b l : List ℕ) (v x k y : ℕ) where
-  pub background-1 : x < 8 → k ≡ v % 4 → y ≡ x → b ≡ tab (backgroundAt w n table (v - k) 0) rowLength → l ≡ tab (shifted b (8 * k + y)) lineLength
+  pub background-1 : x < 8 → k ≡ v % 4 → y ≡ x → b ≡ tab (backgroundAt w n table (groupStart v) 0) rowLength → l ≡ tab (shifted b (8 * k + y)) lineLength
       → l ≡ tab (backgroundAt w n table v x) lineLength
-  background-1 h i j d e = e ∙ rw (i, j) (line-is w n table b v x h (d ∙ rw i))
+  background-1 h i j d e = e ∙ rw (i, j) (line-is w n table b v x h d)
 
 pub ruleset background-cases = (background-1)

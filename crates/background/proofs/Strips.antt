@@ -16,7 +16,7 @@ use Rattle.model.proofs.Scroll.{right-in, lt-or-ge, by-in, by-out}
 use Rattle.model.proofs.Tab.{tab-none, tab-done, tab-cong, getD-tab}
 use Rattle.pixels.specs.Row.{storeTab}
 use Rattle.pixels.proofs.Store.{tile-more}
-use Rattle.background.specs.Strips.{rowLength, stripOf, paletteOf, columnPixel, stripPixel, besideOf, shifted}
+use Rattle.background.specs.Strips.{rowLength, stripOf, paletteOf, columnPixel, stripPixel, besideOf, groupStart, shifted}
 
 -- the tile number's address and the attribute byte's: their quarter, and their place in the page
 tile-quarter : (v : ℕ) → (8192 + v % 4096) / 1024 % 4 ≡ nametable v
@@ -170,23 +170,38 @@ two-runs w n table l l₁ l₂ v m z e h e₁ e₂ =
     tab-done f (8 * m + 8 * (column v + 4)) rowLength l l₂ (omega arith) h
     (e₂ ∙ tile-more f _ (8 * m) (8 * (column v + 4)) l l₁ (omega arith) f₂ (λ i lt. run-out w n table v m i e (omega arith)))
 
+-- the first column of v's group has v's nametable, row and fine y
+start-in : (v : ℕ) → column (groupStart v) + v % 4 < 32
+start-in v = omega arith
+
+start-and : (v : ℕ) → groupStart v + v % 4 ≡ v
+start-and v = omega arith
+
+pub start-quarter : (v : ℕ) → nametable v ≡ nametable (groupStart v)
+start-quarter v = ap nametable (sym (start-and v)) ∙ in-quarter (groupStart v) (v % 4) (start-in v)
+
+pub start-strip : (w : Wiring) (q v : ℕ) → stripOf w q v ≡ stripOf w q (groupStart v)
+start-strip w q v =
+    let a : row v ≡ row (groupStart v) = ap row (sym (start-and v)) ∙ in-row (groupStart v) (v % 4) (start-in v) in
+    let b : fineY v ≡ fineY (groupStart v) = ap fineY (sym (start-and v)) ∙ in-fine (groupStart v) (v % 4) (start-in v) in
+    rw (a, b)
+
 -- k columns right, and then more
 by-more : (v k m : ℕ) → rightBy v (k + m) ≡ rightBy (rightBy v k) m
 unfolding rightBy
 by-more v k zero = rw (add-zero k)
 by-more v k (suc m) = rw (add-suc k m, by-more v k m)
 
--- the line is the row of v's group from v's column and column x on
-from-x : (w : Wiring) (n table : List ℕ) (v x p : ℕ) → backgroundAt w n table (v - v % 4) 0 (8 * (v % 4) + x + p) ≡ backgroundAt w n table v x p
+-- the line is the row from v's column and its own column x on
+from-x : (w : Wiring) (n table : List ℕ) (v x p : ℕ) → backgroundAt w n table (groupStart v) 0 (8 * (v % 4) + x + p) ≡ backgroundAt w n table v x p
 unfolding backgroundAt
 from-x w n table v x p =
     let a : (0 + (8 * (v % 4) + x + p)) / 8 ≡ v % 4 + (x + p) / 8 = omega arith in
     let b : (0 + (8 * (v % 4) + x + p)) % 8 ≡ (x + p) % 8 = omega arith in
-    let d : v - v % 4 + v % 4 ≡ v = omega arith in
-    rw (a, b, by-more (v - v % 4) (v % 4) ((x + p) / 8), by-in (v - v % 4) (v % 4) (omega arith), d)
+    rw (a, b, by-more (groupStart v) (v % 4) ((x + p) / 8), by-in (groupStart v) (v % 4) (start-in v), start-and v)
 
-pub line-is : (w : Wiring) (n table b : List ℕ) (v x : ℕ) → x < 8 → b ≡ tab (backgroundAt w n table (v - v % 4) 0) rowLength
+pub line-is : (w : Wiring) (n table b : List ℕ) (v x : ℕ) → x < 8 → b ≡ tab (backgroundAt w n table (groupStart v) 0) rowLength
     → tab (shifted b (8 * (v % 4) + x)) lineLength ≡ tab (backgroundAt w n table v x) lineLength
 unfolding shifted
 line-is w n table b v x h e =
-    tab-cong _ _ lineLength (λ p lt. rw e (getD-tab (backgroundAt w n table (v - v % 4) 0) rowLength (8 * (v % 4) + x + p) (omega arith) ∙ from-x w n table v x p))
+    tab-cong _ _ lineLength (λ p lt. rw e (getD-tab (backgroundAt w n table (groupStart v) 0) rowLength (8 * (v % 4) + x + p) (omega arith) ∙ from-x w n table v x p))

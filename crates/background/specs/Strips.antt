@@ -49,3 +49,7 @@ shifted b x p = getD b (x + p) 0
 -- the quarter left or right of q: v's nametable with bit 10 turned
 abbrev pub besideOf : ℕ → ℕ
 besideOf q = q + 1 - 2 * (q % 2)
+
+-- v in the first column of its group
+abbrev pub groupStart : ℕ → ℕ
+groupStart v = v - v % 4

@@ -2,7 +2,7 @@
 // A line meets 33 tiles, in two strips: from v's column to the end of its nametable, then in the nametable beside.
 // Four tiles share an attribute byte, so whole groups of four are drawn, nine of them, into a row that is longer than the line.
 // strip_at: what is the same for all tiles of a strip. palette_at, put_column, put_pair, put_group, run: one tile, two, four, n groups.
-// beside, tiles, tiles_of: both strips into a row of pixels, out of one pattern table or the chosen one.
+// tiles, tiles_of: both strips into a row of pixels, out of one pattern table or the chosen one.
 // shift, background: the row from v's column and fine x on is the line.
 ghost use mathlib.Core.Path.{_≡_};
 ghost use Prim.Native.Nat.{_+_, _*_, _%_, _<_, _≤_};
@@ -18,7 +18,7 @@ ghost use Rattle.background.specs.Strips.{
   Within,
   paletteOf,
   stripPixel,
-  besideOf,
+  groupStart,
   shifted,
 };
 use bits::field;
@@ -131,28 +131,16 @@ fn run(table: &[u8], nametables: &[u8], s: Strip, group: usize, n: usize, row: &
     }
 }
 
-// The nametable left or right of a quarter.
-fn beside(quarter: usize) -> usize
-    requires { ⌜ quarter < 4 ⌝ }
-    ensures { λ r. ⌜ (r ≡ besideOf quarter) × (r < 4) ⌝ }
-{
-    if low(quarter, 1) == 0 {
-        return quarter + 1;
-    }
-    quarter - 1
-}
-
 // Nine groups out of a pattern table, from that of v's column on: the background as with fine x 0.
 fn tiles(board: Board, v: usize, table: &[u8], nametables: &[u8], row: &mut [u8])
-    requires { ⌜ (v < 32768) × (v % 4 ≡ 0) × (length (now table) ≡ patternLength) × (length (now nametables) ≡ nametableLength board)
-        × (length (now row) ≡ rowLength) ⌝ }
-    ensures { λ _. ⌜ now (row .exit) ≡ tab (backgroundAt (board .wiring) (now (nametables .entry)) (now (table .entry)) v 0) rowLength ⌝ }
+    requires { ⌜ (length (now table) ≡ patternLength) × (length (now nametables) ≡ nametableLength board) × (length (now row) ≡ rowLength) ⌝ }
+    ensures { λ _. ⌜ now (row .exit) ≡ tab (backgroundAt (board .wiring) (now (nametables .entry)) (now (table .entry)) (groupStart v) 0) rowLength ⌝ }
 {
     let group = low(v >> 2, 3);
     let quarter = low(v >> 10, 2);
-    let next = beside(quarter);
+    let beside = quarter + 1 - 2 * low(quarter, 1);
     let here = strip_at(board, quarter, v);
-    let there = strip_at(board, next, v);
+    let there = strip_at(board, beside, v);
     run(table, nametables, here, group, 8 - group, row, 0);
     run(table, nametables, there, 0, group + 1, row, 8 - group);
 }
@@ -167,10 +155,10 @@ fn tiles_of(
     nametables: &[u8],
     row: &mut [u8],
 )
-    requires { ⌜ (v < 32768) × (v % 4 ≡ 0) × (length (now left) ≡ patternLength) × (length (now right) ≡ patternLength)
+    requires { ⌜ (length (now left) ≡ patternLength) × (length (now right) ≡ patternLength)
         × (length (now nametables) ≡ nametableLength board) × (length (now row) ≡ rowLength) ⌝ }
     ensures { λ _. ⌜ now (row .exit) ≡
-        tab (backgroundAt (board .wiring) (now (nametables .entry)) (tableOf second (now (left .entry)) (now (right .entry))) v 0) rowLength ⌝ }
+        tab (backgroundAt (board .wiring) (now (nametables .entry)) (tableOf second (now (left .entry)) (now (right .entry))) (groupStart v) 0) rowLength ⌝ }
 {
     if second {
         tiles(board, v, right, nametables, row);
@@ -207,17 +195,7 @@ pub fn background(
     ensures { λ _. ⌜ now (line .exit) ≡
         tab (backgroundAt (board .wiring) (now (nametables .entry)) (tableOf second (now (left .entry)) (now (right .entry))) v x) lineLength ⌝ }
 {
-    let at = v as usize;
-    let skipped = low(at, 2);
     let mut row = [0u8; 288];
-    tiles_of(
-        board,
-        second,
-        at - skipped,
-        left,
-        right,
-        nametables,
-        &mut row,
-    );
-    shift(&row, 8 * skipped + wide(x), line);
+    tiles_of(board, second, v as usize, left, right, nametables, &mut row);
+    shift(&row, 8 * low(v as usize, 2) + wide(x), line);
 }

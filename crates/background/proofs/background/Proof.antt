@@ -9,12 +9,6 @@ use Rattle.background.proofs.tiles_of.Reads as tiles-of-reads
 use Rattle.bits.proofs.low.Reads as low-reads
 use Rattle.bits.proofs.wide.Reads as wide-reads
 
-low-requires : tie.Need-low-requires
-low-requires c κs = search needs
-
-sub-tiles-of : tie.Need-sub-tiles-of
-sub-tiles-of c = search needs
-
 slice-aggregate-tiles-of : tie.Need-slice-aggregate-tiles-of
 slice-aggregate-tiles-of c = search needs
 
@@ -23,6 +17,9 @@ tiles-of-requires c κs = search needs
 
 slice-aggregate-shift : tie.Need-slice-aggregate-shift
 slice-aggregate-shift c = search needs
+
+low-requires : tie.Need-low-requires
+low-requires c κs = search needs
 
 mul-shift : tie.Need-mul-shift
 mul-shift c = search needs
@@ -46,11 +43,10 @@ pub background-spec : {M : Type 1} → statement M
 background-spec =
     tie.close
     (tie.spec
-    low-requires
-    sub-tiles-of
     slice-aggregate-tiles-of
     tiles-of-requires
     slice-aggregate-shift
+    low-requires
     mul-shift
     wide-requires
     add-shift
