@@ -18,19 +18,21 @@ use model::Sprite;
 
 // 1 in each byte.
 const ONES: u64 = 0x0101010101010101;
-// Times a byte: its bit 7 - k, for k from 1 to 7, comes to the lowest bit of byte k, 9k - 7 places up. No two bits meet.
-const SPREAD: u64 = 0x0100804020100804;
+// The highest bit of each byte.
+const HIGHEST: u64 = 0x8080808080808080;
+// Times a byte: its bit 7 - k, for k from 0 to 6, comes to the highest bit of byte k, 9k places up. No two bits meet.
+const SPREAD: u64 = 0x0040201008040201;
 // Times a byte's low seven bits: bit k comes to the lowest bit of byte k, 7k places up. No two bits meet.
 const SPREAD_BACK: u64 = 0x0000040810204081;
 // 1 in the highest byte: the rightmost pixel.
 const RIGHTMOST: u64 = 0x0100000000000000;
 
-// The bits of b, one in each byte, bit 7 leftmost.
+// The bits of b, one in each byte, bit 7 leftmost. Of what is moved up by 63 only bit 0 stays: that makes one product of all eight.
 pub fn spread(b: u8) -> u64
     ensures { λ r. ⌜ (r ≡ spreadOf b) × (r ≤ 0x0101010101010101) ⌝ }
 {
     let x = bits::wide64(b);
-    (x * SPREAD & ONES) + (x >> 7)
+    (x * SPREAD + (x << 63) & HIGHEST) >> 7
 }
 
 // The bits of b, one in each byte, bit 0 leftmost.
