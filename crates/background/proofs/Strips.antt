@@ -1,21 +1,22 @@
 -- The tiles that a line shows stand in two strips: from the column of v to the end of its page, and in the page beside.
-use Prim.Native.Nat.{ℕ, _+_, _-_, _*_, _/_, _%_, _<_, _≤_}
+use Prim.Native.Nat.{ℕ, zero, suc, _+_, _-_, _*_, _/_, _%_, _<_, _≤_}
 use mathlib.Core.Path.{_≡_, ap, sym, _∙_}
 use mathlib.Core.List.{List, _++_}
+use mathlib.Core.Logic.{⊎-elim}
 use native.Mathlib.Omega.{arith}
-use native.Mathlib.Nat.{add-assoc, zero-add, mul-comm}
+use native.Mathlib.Nat.{add-assoc, add-zero, add-suc, zero-add, mul-comm}
 use lib.ListN.{length, drop}
 use Rattle.model.specs.declared.Wiring.{Wiring}
 use Rattle.model.specs.Unit.{lineLength}
 use Rattle.model.specs.Address.{pageAt, wiringNumber, cellOf}
-use Rattle.model.specs.Scroll.{fineY, nametable, row, column, turn10}
+use Rattle.model.specs.Scroll.{fineY, nametable, row, column, turn10, right, rightBy}
 use Rattle.model.specs.Background.{tileAt, attributeAddress, attributeAt, lowAt, highAt, tilePixel, backgroundAt}
 use Rattle.model.specs.Line.{tab}
-use Rattle.model.proofs.Scroll.{by-in, by-out}
+use Rattle.model.proofs.Scroll.{right-in, lt-or-ge, by-in, by-out}
 use Rattle.model.proofs.Tab.{tab-none, tab-done, tab-cong, getD-tab}
 use Rattle.pixels.specs.Row.{storeTab}
 use Rattle.pixels.proofs.Store.{tile-more}
-use Rattle.background.specs.Strips.{rowLength, stripOf, paletteOf, columnPixel, stripPixel, besideOf, shifted}
+use Rattle.background.specs.Strips.{rowLength, stripOf, paletteOf, columnPixel, stripPixel, besideOf, groupStart, shifted}
 
 -- the tile number's address and the attribute byte's: their quarter, and their place in the page
 tile-quarter : (v : ℕ) → (8192 + v % 4096) / 1024 % 4 ≡ nametable v
@@ -134,37 +135,73 @@ out-fine v t i =
 out-column : (v t : ℕ) → t < 32 → column (turn10 (v - column v) + t) ≡ t
 out-column v t i = rw (out-is v t) (column-is (v / 2048) (1 - v / 1024 % 2) (row v) t i)
 
+-- k columns right, into the page beside and no further
+by-beside : (v k : ℕ) → 32 ≤ column v + k → column v + k < 64 → rightBy v k ≡ turn10 (v - column v) + (column v + k - 32)
+unfolding rightBy
+by-beside v zero h i = omega arith
+by-beside v (suc k) h i =
+    ⊎-elim
+    (λ (lt : column v + k < 32). by-out v (suc k) h (omega arith))
+    (λ (ge : 32 ≤ column v + k).
+    ap right (by-beside v k ge (omega arith)) ∙ right-in (turn10 (v - column v) + (column v + k - 32)) (omega arith) ∙ omega arith)
+    (lt-or-ge (column v + k) 32)
+
 -- the second run, after m tiles
-run-out : (w : Wiring) (n table : List ℕ) (v m i : ℕ) → m ≡ 32 - column v → i / 8 ≤ column v
+run-out : (w : Wiring) (n table : List ℕ) (v m i : ℕ) → m ≡ 32 - column v → i / 8 < 32
     → stripPixel table n (stripOf w (besideOf (nametable v)) v) 0 i ≡ backgroundAt w n table v 0 (8 * m + i)
 unfolding stripPixel backgroundAt
-run-out w n table v m i e h =
+run-out w n table v m i e t =
     let a : (8 * m + i) / 8 ≡ m + i / 8 = omega arith in
     let b : (8 * m + i) % 8 ≡ i % 8 = omega arith in
     let d : column v + (m + i / 8) - 32 ≡ i / 8 = omega arith in
-    let t : i / 8 < 32 = omega arith in
-    rw (zero-add (8 * m + i), a, b, by-out v (m + i / 8) (omega arith) (omega arith), d, zero-add (i / 8))
+    rw (zero-add (8 * m + i), a, b, by-beside v (m + i / 8) (omega arith) (omega arith), d, zero-add (i / 8))
     (tile-of w n table (turn10 (v - column v) + i / 8) v (i % 8) (besideOf (nametable v)) (i / 8) (out-quarter v (i / 8) t) (out-row v (i / 8) t) (out-fine v (i / 8) t) (out-column v (i / 8) t))
 
 -- both runs
-pub two-runs : (w : Wiring) (n table l l₁ l₂ : List ℕ) (v m : ℕ) → m ≡ 32 - column v → length l ≡ rowLength
+pub two-runs : (w : Wiring) (n table l l₁ l₂ : List ℕ) (v m : ℕ) → v % 4 ≡ 0 → m ≡ 32 - column v → length l ≡ rowLength
     → l₁ ≡ storeTab (stripPixel table n (stripOf w (nametable v) v) (column v)) 0 (8 * m) l
-    → l₂ ≡ storeTab (stripPixel table n (stripOf w (besideOf (nametable v)) v) 0) (8 * m) (8 * (column v + 1)) l₁
+    → l₂ ≡ storeTab (stripPixel table n (stripOf w (besideOf (nametable v)) v) 0) (8 * m) (8 * (column v + 4)) l₁
     → l₂ ≡ tab (backgroundAt w n table v 0) rowLength
-two-runs w n table l l₁ l₂ v m e h e₁ e₂ =
+two-runs w n table l l₁ l₂ v m z e h e₁ e₂ =
     let f = backgroundAt w n table v 0 in
+    let c : column v ≤ 28 = omega arith in
     let f₁ : l₁ ≡ tab f (0 + 8 * m) ++ drop (0 + 8 * m) l = e₁ ∙ tile-more f _ 0 (8 * m) l l (omega arith) (tab-none f l) (λ i lt. rw (zero-add i) (run-in w n table v i (omega arith))) in
     let f₂ : l₁ ≡ tab f (8 * m) ++ drop (8 * m) l = rw (zero-add (8 * m)) at f₁ in
-    tab-done f (8 * m + 8 * (column v + 1)) rowLength l l₂ (omega arith) h
-    (e₂ ∙ tile-more f _ (8 * m) (8 * (column v + 1)) l l₁ (omega arith) f₂ (λ i lt. run-out w n table v m i e (omega arith)))
+    tab-done f (8 * m + 8 * (column v + 4)) rowLength l l₂ (omega arith) h
+    (e₂ ∙ tile-more f _ (8 * m) (8 * (column v + 4)) l l₁ (omega arith) f₂ (λ i lt. run-out w n table v m i e (omega arith)))
 
--- the line is the row from column x on
-from-x : (w : Wiring) (n table : List ℕ) (v x p : ℕ) → backgroundAt w n table v 0 (x + p) ≡ backgroundAt w n table v x p
+-- the first column of v's group has v's nametable, row and fine y
+start-in : (v : ℕ) → column (groupStart v) + v % 4 < 32
+start-in v = omega arith
+
+start-and : (v : ℕ) → groupStart v + v % 4 ≡ v
+start-and v = omega arith
+
+pub start-quarter : (v : ℕ) → nametable v ≡ nametable (groupStart v)
+start-quarter v = ap nametable (sym (start-and v)) ∙ in-quarter (groupStart v) (v % 4) (start-in v)
+
+pub start-strip : (w : Wiring) (q v : ℕ) → stripOf w q v ≡ stripOf w q (groupStart v)
+start-strip w q v =
+    let a : row v ≡ row (groupStart v) = ap row (sym (start-and v)) ∙ in-row (groupStart v) (v % 4) (start-in v) in
+    let b : fineY v ≡ fineY (groupStart v) = ap fineY (sym (start-and v)) ∙ in-fine (groupStart v) (v % 4) (start-in v) in
+    rw (a, b)
+
+-- k columns right, and then more
+by-more : (v k m : ℕ) → rightBy v (k + m) ≡ rightBy (rightBy v k) m
+unfolding rightBy
+by-more v k zero = rw (add-zero k)
+by-more v k (suc m) = rw (add-suc k m, by-more v k m)
+
+-- the line is the row from v's column and its own column x on
+from-x : (w : Wiring) (n table : List ℕ) (v x p : ℕ) → backgroundAt w n table (groupStart v) 0 (8 * (v % 4) + x + p) ≡ backgroundAt w n table v x p
 unfolding backgroundAt
-from-x w n table v x p = rw (zero-add (x + p))
+from-x w n table v x p =
+    let a : (0 + (8 * (v % 4) + x + p)) / 8 ≡ v % 4 + (x + p) / 8 = omega arith in
+    let b : (0 + (8 * (v % 4) + x + p)) % 8 ≡ (x + p) % 8 = omega arith in
+    rw (a, b, by-more (groupStart v) (v % 4) ((x + p) / 8), by-in (groupStart v) (v % 4) (start-in v), start-and v)
 
-pub line-is : (w : Wiring) (n table b : List ℕ) (v x : ℕ) → x < 8 → b ≡ tab (backgroundAt w n table v 0) rowLength
-    → tab (shifted b x) lineLength ≡ tab (backgroundAt w n table v x) lineLength
+pub line-is : (w : Wiring) (n table b : List ℕ) (v x : ℕ) → x < 8 → b ≡ tab (backgroundAt w n table (groupStart v) 0) rowLength
+    → tab (shifted b (8 * (v % 4) + x)) lineLength ≡ tab (backgroundAt w n table v x) lineLength
 unfolding shifted
 line-is w n table b v x h e =
-    tab-cong _ _ lineLength (λ p lt. rw e (getD-tab (backgroundAt w n table v 0) rowLength (x + p) (omega arith) ∙ from-x w n table v x p))
+    tab-cong _ _ lineLength (λ p lt. rw e (getD-tab (backgroundAt w n table (groupStart v) 0) rowLength (8 * (v % 4) + x + p) (omega arith) ∙ from-x w n table v x p))

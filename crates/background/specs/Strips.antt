@@ -8,9 +8,9 @@ use Rattle.model.specs.Scroll.{fineY, row}
 use Rattle.model.specs.Background.{colourOf, numberOf}
 use Rattle.background.specs.declared.Strip.{Strip}
 
--- 33 tiles of eight pixels: with fine x a line ends in the 33rd
+-- nine groups of four tiles of eight pixels: a line meets 33 tiles, the first of them any of its group's
 abbrev pub rowLength : ℕ
-rowLength = 264
+rowLength = 288
 
 -- v's row of tiles in the page of quarter q
 abbrev pub stripOf : Wiring → ℕ → ℕ → Strip
@@ -49,3 +49,7 @@ shifted b x p = getD b (x + p) 0
 -- the quarter left or right of q: v's nametable with bit 10 turned
 abbrev pub besideOf : ℕ → ℕ
 besideOf q = q + 1 - 2 * (q % 2)
+
+-- v in the first column of its group
+abbrev pub groupStart : ℕ → ℕ
+groupStart v = v - v % 4

@@ -1,10 +1,11 @@
-// The background of one line, a tile at a time. Inner functions, not public calls: they require lengths and bounds.
+// The background of one line. Inner functions, not public calls: they require lengths and bounds.
 // A line meets 33 tiles, in two strips: from v's column to the end of its nametable, then in the nametable beside.
-// strip_at: what is the same for all tiles of a strip. palette_at, put_column, run: one tile of a strip, then n tiles.
-// beside, tiles, tiles_of: both strips into a row of pixels, out of one pattern table or the chosen one.
-// shift, background: the row from fine x on is the line.
+// Four tiles share an attribute byte, so whole groups of four are drawn, nine of them, into a row that is longer than the line.
+// strip_at: what is the same for all tiles of a strip. palette_at, put_column, put_pair, put_group, run: one tile, two, four, n groups.
+// tiles, tiles_of: both strips into a row of pixels, out of one pattern table or the chosen one.
+// shift, background: the row from v's column and fine x on is the line.
 ghost use mathlib.Core.Path.{_≡_};
-ghost use Prim.Native.Nat.{_+_, _*_, _<_, _≤_};
+ghost use Prim.Native.Nat.{_+_, _*_, _%_, _<_, _≤_};
 ghost use lib.ListN.{length};
 ghost use Rattle.model.specs.Unit.{patternLength, nametableLength, lineLength};
 ghost use Rattle.model.specs.Address.{tableOf};
@@ -16,9 +17,8 @@ ghost use Rattle.background.specs.Strips.{
   stripOf,
   Within,
   paletteOf,
-  columnPixel,
   stripPixel,
-  besideOf,
+  groupStart,
   shifted,
 };
 use bits::field;
@@ -63,68 +63,86 @@ fn palette_at(nametables: &[u8], s: Strip, column: usize) -> u8
     requires { ⌜ Within s (length (now nametables)) × (column < 32) ⌝ }
     ensures { λ r. ⌜ (r ≡ paletteOf (now (nametables .entry)) s column) × (r < 4) ⌝ }
 {
-    let attribute = nametables[s.attributes + (column >> 2)];
-    field(attribute, s.quadrant + 2 * low(column >> 1, 1), 2)
+    let attribute = nametables[s.attributes + (column >> 2)] >> s.quadrant;
+    field(attribute, 2 * low(column >> 1, 1), 2)
 }
 
 // Eight pixels of the tile in a column.
-fn put_column(table: &[u8], nametables: &[u8], s: Strip, column: usize, row: &mut [u8], at: usize)
-    requires { ⌜ (length (now table) ≡ patternLength) × Within s (length (now nametables)) × (column < 32) × (at + 8 ≤ length (now row)) ⌝ }
-    ensures { λ _. ⌜ now (row .exit) ≡ storeTab (columnPixel (now (table .entry)) (now (nametables .entry)) s column) at 8 (now (row .entry)) ⌝ }
+fn put_column(
+    table: &[u8],
+    nametables: &[u8],
+    s: Strip,
+    column: usize,
+    palette: u8,
+    row: &mut [u8],
+    at: usize,
+)
+    requires { ⌜ (length (now table) ≡ patternLength) × Within s (length (now nametables)) × (column < 32)
+        × (palette ≡ paletteOf (now nametables) s column) × (palette < 4) × (at + 8 ≤ length (now row)) ⌝ }
+    ensures { λ _. ⌜ now (row .exit) ≡ storeTab (stripPixel (now (table .entry)) (now (nametables .entry)) s column) at 8 (now (row .entry)) ⌝ }
 {
     let tile = wide(nametables[s.tiles + column]);
-    let palette = palette_at(nametables, s, column);
     let byte = 16 * tile + s.fine;
     let plane0 = table[byte];
     let plane1 = table[byte + 8];
     put_tile(row, at, plane0, plane1, palette);
 }
 
-// n tiles from a column on, put into the row from its tile at on.
-fn run(
+// Two tiles that share a palette.
+fn put_pair(
     table: &[u8],
     nametables: &[u8],
     s: Strip,
     column: usize,
-    n: usize,
+    palette: u8,
     row: &mut [u8],
     at: usize,
 )
-    requires { ⌜ (length (now table) ≡ patternLength) × Within s (length (now nametables)) × (column + n ≤ 32)
-        × (length (now row) ≡ rowLength) × (at + n ≤ 33) ⌝ }
-    ensures { λ _. ⌜ now (row .exit) ≡ storeTab (stripPixel (now (table .entry)) (now (nametables .entry)) s column) (8 * at) (8 * n) (now (row .entry)) ⌝ }
+    requires { ⌜ (length (now table) ≡ patternLength) × Within s (length (now nametables)) × (column < 32) × (column % 2 ≡ 0)
+        × (palette ≡ paletteOf (now nametables) s column) × (palette < 4) × (at + 16 ≤ length (now row)) ⌝ }
+    ensures { λ _. ⌜ now (row .exit) ≡ storeTab (stripPixel (now (table .entry)) (now (nametables .entry)) s column) at 16 (now (row .entry)) ⌝ }
+{
+    put_column(table, nametables, s, column, palette, row, at);
+    put_column(table, nametables, s, column + 1, palette, row, at + 8);
+}
+
+// Four tiles that share an attribute byte. Both palettes are taken before a store, so that the byte is loaded once.
+fn put_group(table: &[u8], nametables: &[u8], s: Strip, group: usize, row: &mut [u8], at: usize)
+    requires { ⌜ (length (now table) ≡ patternLength) × Within s (length (now nametables)) × (group < 8) × (at + 32 ≤ length (now row)) ⌝ }
+    ensures { λ _. ⌜ now (row .exit) ≡ storeTab (stripPixel (now (table .entry)) (now (nametables .entry)) s (4 * group)) at 32 (now (row .entry)) ⌝ }
+{
+    let column = 4 * group;
+    let left = palette_at(nametables, s, column);
+    let right = palette_at(nametables, s, column + 2);
+    put_pair(table, nametables, s, column, left, row, at);
+    put_pair(table, nametables, s, column + 2, right, row, at + 16);
+}
+
+// n groups from a group on, put into the row from its group at on.
+fn run(table: &[u8], nametables: &[u8], s: Strip, group: usize, n: usize, row: &mut [u8], at: usize)
+    requires { ⌜ (length (now table) ≡ patternLength) × Within s (length (now nametables)) × (group + n ≤ 8)
+        × (length (now row) ≡ rowLength) × (at + n ≤ 9) ⌝ }
+    ensures { λ _. ⌜ now (row .exit) ≡ storeTab (stripPixel (now (table .entry)) (now (nametables .entry)) s (4 * group)) (32 * at) (32 * n) (now (row .entry)) ⌝ }
 {
     let mut t = 0;
     while t < n {
-        put_column(table, nametables, s, column + t, row, 8 * (at + t));
+        put_group(table, nametables, s, group + t, row, 32 * (at + t));
         t += 1;
     }
 }
 
-// The nametable left or right of a quarter.
-fn beside(quarter: usize) -> usize
-    requires { ⌜ quarter < 4 ⌝ }
-    ensures { λ r. ⌜ (r ≡ besideOf quarter) × (r < 4) ⌝ }
-{
-    if low(quarter, 1) == 0 {
-        return quarter + 1;
-    }
-    quarter - 1
-}
-
-// The line's 33 tiles out of a pattern table: the background as with fine x 0.
+// Nine groups out of a pattern table, from that of v's column on: the background as with fine x 0.
 fn tiles(board: Board, v: usize, table: &[u8], nametables: &[u8], row: &mut [u8])
-    requires { ⌜ (v < 32768) × (length (now table) ≡ patternLength) × (length (now nametables) ≡ nametableLength board)
-        × (length (now row) ≡ rowLength) ⌝ }
-    ensures { λ _. ⌜ now (row .exit) ≡ tab (backgroundAt (board .wiring) (now (nametables .entry)) (now (table .entry)) v 0) rowLength ⌝ }
+    requires { ⌜ (length (now table) ≡ patternLength) × (length (now nametables) ≡ nametableLength board) × (length (now row) ≡ rowLength) ⌝ }
+    ensures { λ _. ⌜ now (row .exit) ≡ tab (backgroundAt (board .wiring) (now (nametables .entry)) (now (table .entry)) (groupStart v) 0) rowLength ⌝ }
 {
-    let column = low(v, 5);
+    let group = low(v >> 2, 3);
     let quarter = low(v >> 10, 2);
-    let next = beside(quarter);
+    let beside = quarter + 1 - 2 * low(quarter, 1);
     let here = strip_at(board, quarter, v);
-    let there = strip_at(board, next, v);
-    run(table, nametables, here, column, 32 - column, row, 0);
-    run(table, nametables, there, 0, column + 1, row, 32 - column);
+    let there = strip_at(board, beside, v);
+    run(table, nametables, here, group, 8 - group, row, 0);
+    run(table, nametables, there, 0, group + 1, row, 8 - group);
 }
 
 // The same out of the left table or the right.
@@ -137,10 +155,10 @@ fn tiles_of(
     nametables: &[u8],
     row: &mut [u8],
 )
-    requires { ⌜ (v < 32768) × (length (now left) ≡ patternLength) × (length (now right) ≡ patternLength)
+    requires { ⌜ (length (now left) ≡ patternLength) × (length (now right) ≡ patternLength)
         × (length (now nametables) ≡ nametableLength board) × (length (now row) ≡ rowLength) ⌝ }
     ensures { λ _. ⌜ now (row .exit) ≡
-        tab (backgroundAt (board .wiring) (now (nametables .entry)) (tableOf second (now (left .entry)) (now (right .entry))) v 0) rowLength ⌝ }
+        tab (backgroundAt (board .wiring) (now (nametables .entry)) (tableOf second (now (left .entry)) (now (right .entry))) (groupStart v) 0) rowLength ⌝ }
 {
     if second {
         tiles(board, v, right, nametables, row);
@@ -151,7 +169,7 @@ fn tiles_of(
 
 // A line of pixels out of a row, from its pixel x on.
 fn shift(row: &[u8], x: usize, line: &mut [u8])
-    requires { ⌜ (length (now row) ≡ rowLength) × (length (now line) ≡ lineLength) × (x < 8) ⌝ }
+    requires { ⌜ (length (now row) ≡ rowLength) × (length (now line) ≡ lineLength) × (x < 32) ⌝ }
     ensures { λ _. ⌜ now (line .exit) ≡ tab (shifted (now (row .entry)) x) lineLength ⌝ }
 {
     let mut p = 0;
@@ -177,7 +195,7 @@ pub fn background(
     ensures { λ _. ⌜ now (line .exit) ≡
         tab (backgroundAt (board .wiring) (now (nametables .entry)) (tableOf second (now (left .entry)) (now (right .entry))) v x) lineLength ⌝ }
 {
-    let mut row = [0u8; 264];
+    let mut row = [0u8; 288];
     tiles_of(board, second, v as usize, left, right, nametables, &mut row);
-    shift(&row, wide(x), line);
+    shift(&row, 8 * low(v as usize, 2) + wide(x), line);
 }

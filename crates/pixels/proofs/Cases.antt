@@ -1,5 +1,5 @@
 -- What each function comes to, from what its calls and tests say: laws over plain variables.
-use Prim.Native.Nat.{ℕ, _+_, _-_, _*_, _%_, _<_}
+use Prim.Native.Nat.{ℕ, _+_, _-_, _*_, _/_, _%_, _<_}
 use mathlib.Core.Path.{_≡_, _∙_}
 use mathlib.Core.Bool.{Bool, true, false, cond, _&&_, and-false}
 use mathlib.Core.List.{List, _++_}
@@ -11,16 +11,17 @@ use Rattle.model.specs.Unit.{bit}
 use Rattle.model.specs.Line.{tab, merged}
 use Rattle.model.specs.Record.{bitByte}
 use Rattle.model.specs.Background.{colourOf, numberOf}
-use Rattle.pixels.specs.Pack.{byteOf, spreadOf, pixelsBy}
+use Rattle.pixels.specs.Pack.{pack, byteOf, spreadOf, backOf, pixelsBy}
 use Rattle.pixels.specs.Row.{storeTab, overOne}
-use Rattle.pixels.proofs.Colours.{tile-bytes}
+use Rattle.pixels.proofs.Colours.{sprite-pack, tile-bytes}
 use Rattle.pixels.proofs.Store.{store-cong, rest-at}
 use Rattle.model.proofs.Tab.{tab-more}
 
 -- put_tile
-pub tile-stored : (low high palette at n : ℕ) (l : List ℕ) → palette < 4 → n ≡ pixelsBy (spreadOf low + 2 * spreadOf high) palette
-    → storeTab (byteOf n) at 8 l ≡ storeTab (λ (j : ℕ). numberOf palette (colourOf low high (7 - j))) at 8 l
-tile-stored low high palette at n l h e = store-cong _ _ at 8 l (λ j lt. rw e (tile-bytes low high palette j (omega arith) lt))
+pub tile-1 : (low high palette at l h q n : ℕ) (m m′ : List ℕ) → palette < 4 → l ≡ spreadOf low → h ≡ spreadOf high → q ≡ palette → n ≡ pixelsBy l h q → m′ ≡ storeTab (byteOf n) at 8 m
+    → m′ ≡ storeTab (λ (j : ℕ). numberOf palette (colourOf low high (7 - j))) at 8 m
+tile-1 low high palette at l h q n m m′ k a b c d e =
+    e ∙ rw (d, a, b, c) (store-cong _ _ at 8 m (λ j lt. tile-bytes low high palette j (omega arith) lt))
 
 -- over_one
 pub over-empty : (old new : ℕ) → old ≡ 0 → new ≡ overOne old new
@@ -71,8 +72,14 @@ both-opaque b s h k = rw (lt-ltb 0 b (omega arith), lt-ltb 0 s (omega arith))
 pub ruleset both-cases = (both-no-background, both-no-sprite, both-opaque)
 
 -- sided: flipped, or not
-pub sided-flipped : (attribute plain flipped : ℕ) (b : Bool) → b ≡ bit 64 attribute → b ≡ true → flipped ≡ cond (bit 64 attribute) flipped plain
-sided-flipped attribute plain flipped b e d = rw (← e, d)
+pub sided-flipped : (attribute b f : ℕ) (t : Bool) → t ≡ bit 64 attribute → t ≡ true → f ≡ backOf b → f ≡ cond (bit 64 attribute) (backOf b) (spreadOf b)
+sided-flipped attribute b f t e d h = rw (← e, d) h
 
-pub sided-plain : (attribute plain flipped : ℕ) (b : Bool) → b ≡ bit 64 attribute → b ≡ false → plain ≡ cond (bit 64 attribute) flipped plain
-sided-plain attribute plain flipped b e d = rw (← e, d)
+pub sided-plain : (attribute b p : ℕ) (t : Bool) → t ≡ bit 64 attribute → t ≡ false → p ≡ spreadOf b → p ≡ cond (bit 64 attribute) (backOf b) (spreadOf b)
+sided-plain attribute b p t e d h = rw (← e, d) h
+
+-- sprite_bytes
+pub sprite-1 : (attribute low high l h c d q r : ℕ) → l ≡ cond (bit 64 attribute) (backOf low) (spreadOf low) → h ≡ cond (bit 64 attribute) (backOf high) (spreadOf high)
+    → c ≡ attribute % 4 → d ≡ attribute / 32 % 2 → q ≡ 4 + c + d * 8 → r ≡ pixelsBy l h q
+    → r ≡ pack (λ (j : ℕ). numberOf (4 + attribute % 4 + attribute / 32 % 2 * 8) (colourOf low high (cond (bit 64 attribute) j (7 - j)))) 8
+sprite-1 attribute low high l h c d q r i j k m n e = e ∙ rw (i, j, n, k, m) (sprite-pack (bit 64 attribute) low high (4 + attribute % 4 + attribute / 32 % 2 * 8))

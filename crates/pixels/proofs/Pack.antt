@@ -4,7 +4,7 @@ use mathlib.Core.Path.{_≡_, refl, ap, sym, _∙_}
 use native.Mathlib.Omega.{arith}
 use native.Mathlib.Nat.{add-mul, mul-comm, mul-assoc, zero-mul, mul-le-mul-right, mod-eq-of-lt, zero-add, suc-add}
 use lib.Dec.{lit<, lit≤}
-use lib.Bits.{bitAnd, and-block}
+use lib.Bits.{bitOr, or-block}
 use lib.Pow.{pow-add, high, low, field, mod-mod-pow}
 use Rattle.pixels.specs.Pack.{pack, byteOf}
 
@@ -43,15 +43,15 @@ pack-lt f (suc n) h =
     let b : f n < 256 = h n (omega arith) in
     rw (e, pow-add 2 (8 * n) 8) (grow (f n) (2 ^ (8 * n)) (pack f n) (omega arith) (pack-lt f n (λ k lt. h k (omega arith))))
 
-pub pack-and : (f g : ℕ → ℕ) (n : ℕ) → ((k : ℕ) → k < n → f k < 256) → ((k : ℕ) → k < n → g k < 256)
-    → bitAnd (pack f n) (pack g n) ≡ pack (λ (k : ℕ). bitAnd (f k) (g k)) n
+pub pack-or : (f g : ℕ → ℕ) (n : ℕ) → ((k : ℕ) → k < n → f k < 256) → ((k : ℕ) → k < n → g k < 256)
+    → bitOr (pack f n) (pack g n) ≡ pack (λ (k : ℕ). bitOr (f k) (g k)) n
 unfolding pack
-pack-and f g zero h i = refl
-pack-and f g (suc n) h i =
+pack-or f g zero h i = refl
+pack-or f g (suc n) h i =
     let hf : pack f n < 2 ^ (8 * n) = pack-lt f n (λ k lt. h k (omega arith)) in
     let hg : pack g n < 2 ^ (8 * n) = pack-lt g n (λ k lt. i k (omega arith)) in
-    and-block (8 * n) (f n) (g n) (pack f n) (pack g n) hf hg
-    ∙ ap (λ (x : ℕ). bitAnd (f n) (g n) * 2 ^ (8 * n) + x) (pack-and f g n (λ k lt. h k (omega arith)) (λ k lt. i k (omega arith)))
+    or-block (8 * n) (f n) (g n) (pack f n) (pack g n) hf hg
+    ∙ ap (λ (x : ℕ). bitOr (f n) (g n) * 2 ^ (8 * n) + x) (pack-or f g n (λ k lt. h k (omega arith)) (λ k lt. i k (omega arith)))
 
 -- the low n bytes of more
 pack-mod : (f : ℕ → ℕ) (d n : ℕ) → ((k : ℕ) → k < d + n → f k < 256) → pack f (d + n) % 2 ^ (8 * n) ≡ pack f n

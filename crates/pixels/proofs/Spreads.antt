@@ -26,8 +26,12 @@ pub rightmost : pack (λ (k : ℕ). bitByte (eqb k 7)) 8 ≡ 0x0100000000000000
 unfolding pack
 rightmost = refl
 
--- up by 9k - 7, for k from 1 to 7: from bit 7 - k to bit 8k
-pub spread-moves : movesBy (λ (k : ℕ). 9 * suc k - 7) 7 ≡ 0x0100804020100804
+pub highest : pack (λ (k : ℕ). 128) 8 ≡ 0x8080808080808080
+unfolding pack
+highest = refl
+
+-- up by 9k, for k from 0 to 6: from bit 7 - k to bit 8k + 7
+pub spread-moves : movesBy (λ (k : ℕ). 9 * k) 7 ≡ 0x0040201008040201
 unfolding movesBy
 spread-moves = refl
 
@@ -66,26 +70,26 @@ pub back-le : (b : ℕ) → backOf b ≤ 0x0101010101010101
 unfolding backOf
 back-le b = rw (← ones) (pack-le (λ (k : ℕ). b / 2 ^ k % 2) (λ (k : ℕ). 1) 8 (λ k lt. omega arith))
 
--- a product and a mask that give each byte's bits, first bit 7 or first bit 0, by computing them at every byte
-pub spread-by : (s m x b : ℕ) → T (allBelow (λ (k : ℕ). eqb (bitAnd (k * s) m + k / 128) (spreadOf k)) 256) → x ≡ b → b < 256 → bitAnd (x * s) m + x / 128 ≡ spreadOf b
-spread-by s m x b t e h = rw e (eqb→eq (bitAnd (b * s) m + b / 128) (spreadOf b) (all-at (λ (k : ℕ). eqb (bitAnd (k * s) m + k / 128) (spreadOf k)) 256 t b h))
+-- a product and a mask that give each byte's bits, first bit 7 or first bit 0, by computing them at every byte; each byte is 0 or 1
+abbrev spreadBy : ℕ → ℕ → ℕ → ℕ
+spreadBy s m x = bitAnd (x * s + x * 2 ^ 63 % 2 ^ 64) m / 128
 
-pub back-by : (s m u x y l h b : ℕ) → T (allBelow (λ (k : ℕ). eqb (bitAnd (k % 128 * s) m + k / 128 * u) (backOf k)) 256) → x ≡ l → l ≡ b % 128 → y ≡ h → h ≡ b / 128 → b < 256
-    → bitAnd (x * s) m + y * u ≡ backOf b
-back-by s m u x y l h b t i j e f lt =
-    rw (i, j, e, f) (eqb→eq (bitAnd (b % 128 * s) m + b / 128 * u) (backOf b) (all-at (λ (k : ℕ). eqb (bitAnd (k % 128 * s) m + k / 128 * u) (backOf k)) 256 t b lt))
+pub spread-is : (s m x b : ℕ) → T (allBelow (λ (k : ℕ). eqb (spreadBy s m k) (spreadOf k)) 256) → x ≡ b → b < 256
+    → (spreadBy s m x ≡ spreadOf b) × (spreadBy s m x ≤ 0x0101010101010101)
+spread-is s m x b t e h =
+    let d : spreadBy s m x ≡ spreadOf b = rw e (eqb→eq (spreadBy s m b) (spreadOf b) (all-at (λ (k : ℕ). eqb (spreadBy s m k) (spreadOf k)) 256 t b h)) in
+    (d, rw d (spread-le b))
 
--- each byte of them is 0 or 1
-pub spread-most : (s m x b : ℕ) → T (allBelow (λ (k : ℕ). eqb (bitAnd (k * s) m + k / 128) (spreadOf k)) 256) → x ≡ b → b < 256 → bitAnd (x * s) m + x / 128 ≤ 0x0101010101010101
-spread-most s m x b t e h = rw (spread-by s m x b t e h) (spread-le b)
+abbrev backBy : ℕ → ℕ → ℕ → ℕ → ℕ → ℕ
+backBy s m u x y = bitAnd (x * s) m + y * u
 
-pub back-most : (s m u x y l h b : ℕ) → T (allBelow (λ (k : ℕ). eqb (bitAnd (k % 128 * s) m + k / 128 * u) (backOf k)) 256) → x ≡ l → l ≡ b % 128 → y ≡ h → h ≡ b / 128 → b < 256
-    → bitAnd (x * s) m + y * u ≤ 0x0101010101010101
-back-most s m u x y l h b t i j e f lt = rw (back-by s m u x y l h b t i j e f lt) (back-le b)
+pub back-is : (s m u x y l h b : ℕ) → T (allBelow (λ (k : ℕ). eqb (backBy s m u (k % 128) (k / 128)) (backOf k)) 256) → x ≡ l → l ≡ b % 128 → y ≡ h → h ≡ b / 128 → b < 256
+    → (backBy s m u x y ≡ backOf b) × (backBy s m u x y ≤ 0x0101010101010101)
+back-is s m u x y l h b t i j e f lt =
+    let d : backBy s m u x y ≡ backOf b =
+    rw (i, j, e, f) (eqb→eq (backBy s m u (b % 128) (b / 128)) (backOf b) (all-at (λ (k : ℕ). eqb (backBy s m u (k % 128) (k / 128)) (backOf k)) 256 t b lt)) in
+    (d, rw d (back-le b))
 
--- the sums stay in a word
-pub spread-fits : (s x : ℕ) → x < 256 → Fits w64 (bitAnd (x * s) 0x0101010101010101 + x / 128)
-spread-fits s x k = record { fits = omega (arith, and-le-r (x * s) 0x0101010101010101) }
-
+-- the sum stays in a word
 pub back-fits : (s x y b : ℕ) → y ≡ b / 128 → b < 256 → Fits w64 (bitAnd (x * s) 0x0101010101010101 + y * 0x0100000000000000)
 back-fits s x y b e k = record { fits = omega (arith, and-le-r (x * s) 0x0101010101010101) }

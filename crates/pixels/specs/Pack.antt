@@ -1,6 +1,6 @@
 -- Bytes packed into a number, the first lowest: eight pixels in a word.
 use Prim.Native.Nat.{ℕ, zero, suc, _+_, _-_, _*_, _/_, _%_, _^_}
-use lib.Bits.{bitAnd}
+use lib.Bits.{bitOr}
 
 -- f 0 to f (n - 1), as bytes
 unfoldable pub pack : (ℕ → ℕ) → ℕ → ℕ
@@ -18,6 +18,6 @@ spreadOf b = pack (λ (k : ℕ). b / 2 ^ (7 - k) % 2) 8
 unfoldable pub backOf : ℕ → ℕ
 backOf b = pack (λ (k : ℕ). b / 2 ^ k % 2) 8
 
--- eight pixel numbers from eight colours: 4q is added in each byte whose colour is not 0, since 3 more sets its bit 2
-unfoldable pub pixelsBy : ℕ → ℕ → ℕ
-pixelsBy c q = c + bitAnd (c + 0x0303030303030303) 0x0404040404040404 * q
+-- eight pixel numbers from the colours' low bits and high bits: 4q is added in each byte where either is 1
+unfoldable pub pixelsBy : ℕ → ℕ → ℕ → ℕ
+pixelsBy l h q = l + 2 * h + bitOr l h * (4 * q)

@@ -1,5 +1,5 @@
 // Eight pixels in a 64-bit word, the leftmost in the lowest byte, and rows of pixels.
-// spread, spread_back, numbers: a byte's bits one to a byte; pixel numbers from colours.
+// spread, spread_back, numbers: a byte's bits one to a byte; pixel numbers from two bytes' bits.
 // put8, put_tile: eight pixels stored in a row; those of a background tile.
 // sprite_bytes, put_over: the eight pixels of a sprite's row; stored only where nothing opaque stands.
 // clear, merge, any_both: over a whole row: the left columns hidden, sprites over background, sprite 0 hit.
@@ -18,23 +18,21 @@ use model::Sprite;
 
 // 1 in each byte.
 const ONES: u64 = 0x0101010101010101;
-// Times a byte: its bit 7 - k, for k from 1 to 7, comes to the lowest bit of byte k, 9k - 7 places up. No two bits meet.
-const SPREAD: u64 = 0x0100804020100804;
+// The highest bit of each byte.
+const HIGHEST: u64 = 0x8080808080808080;
+// Times a byte: its bit 7 - k, for k from 0 to 6, comes to the highest bit of byte k, 9k places up. No two bits meet.
+const SPREAD: u64 = 0x0040201008040201;
 // Times a byte's low seven bits: bit k comes to the lowest bit of byte k, 7k places up. No two bits meet.
 const SPREAD_BACK: u64 = 0x0000040810204081;
 // 1 in the highest byte: the rightmost pixel.
 const RIGHTMOST: u64 = 0x0100000000000000;
-// 3 in each byte: a colour and 3 more is 4 or more unless the colour is 0.
-const THREES: u64 = 0x0303030303030303;
-// 4 in each byte.
-const FOURS: u64 = 0x0404040404040404;
 
-// The bits of b, one in each byte, bit 7 leftmost.
+// The bits of b, one in each byte, bit 7 leftmost. Of what is moved up by 63 only bit 0 stays: that makes one product of all eight.
 pub fn spread(b: u8) -> u64
     ensures { λ r. ⌜ (r ≡ spreadOf b) × (r ≤ 0x0101010101010101) ⌝ }
 {
     let x = bits::wide64(b);
-    (x * SPREAD & ONES) + (x >> 7)
+    (x * SPREAD + (x << 63) & HIGHEST) >> 7
 }
 
 // The bits of b, one in each byte, bit 0 leftmost.
@@ -46,12 +44,12 @@ pub fn spread_back(b: u8) -> u64
     (low * SPREAD_BACK & ONES) + high * RIGHTMOST
 }
 
-// The pixel numbers of eight colours: 0 where the colour is 0, else 4q + colour.
-pub fn numbers(colours: u64, q: u64) -> u64
-    requires { ⌜ (colours ≤ 0x0303030303030303) × (q < 16) ⌝ }
-    ensures { λ r. ⌜ r ≡ pixelsBy colours q ⌝ }
+// The pixel numbers of eight colours, given by their low bits and their high bits: 0 where both are 0, else 4q + colour.
+pub fn numbers(low: u64, high: u64, q: u64) -> u64
+    requires { ⌜ (low ≤ 0x0101010101010101) × (high ≤ 0x0101010101010101) × (q < 16) ⌝ }
+    ensures { λ r. ⌜ r ≡ pixelsBy low high q ⌝ }
 {
-    colours + (colours + THREES & FOURS) * q
+    low + 2 * high + (low | high) * (4 * q)
 }
 
 // Byte k of n.
@@ -79,15 +77,16 @@ pub fn put_tile(row: &mut [u8], at: usize, low: u8, high: u8, palette: u8)
     requires { ⌜ (at + 8 ≤ length (now row)) × (palette < 4) ⌝ }
     ensures { λ _. ⌜ now (row .exit) ≡ storeTab (λ (j : ℕ). numberOf palette (colourOf low high (7 - j))) at 8 (now (row .entry)) ⌝ }
 {
-    let colours = spread(low) + 2 * spread(high);
-    put8(row, at, numbers(colours, bits::wide64(palette)));
+    let n = numbers(spread(low), spread(high), bits::wide64(palette));
+    put8(row, at, n);
 }
 
-// The colours from the left, or from the right where attribute bit 6 flips the sprite.
-fn sided(attribute: u8, plain: u64, flipped: u64) -> u64
-    requires { ⌜ (plain ≤ 0x0303030303030303) × (flipped ≤ 0x0303030303030303) ⌝ }
-    ensures { λ r. ⌜ (r ≡ cond (bit 64 attribute) flipped plain) × (r ≤ 0x0303030303030303) ⌝ }
+// The bits of b from the left, or from the right where attribute bit 6 flips the sprite. Both are made, so that nothing is guessed.
+fn sided(attribute: u8, b: u8) -> u64
+    ensures { λ r. ⌜ (r ≡ cond (bit 64 attribute) (backOf b) (spreadOf b)) × (r ≤ 0x0101010101010101) ⌝ }
 {
+    let plain = spread(b);
+    let flipped = spread_back(b);
     if bits::bit(attribute, 6) {
         return flipped;
     }
@@ -98,10 +97,10 @@ fn sided(attribute: u8, plain: u64, flipped: u64) -> u64
 pub fn sprite_bytes(s: Sprite) -> u64
     ensures { λ r. ⌜ r ≡ pack (λ (j : ℕ). numberOf (4 + s .attribute % 4 + s .attribute / 32 % 2 * 8) (colourOf (s .low) (s .high) (cond (bit 64 (s .attribute)) j (7 - j)))) 8 ⌝ }
 {
-    let plain = spread(s.low) + 2 * spread(s.high);
-    let flipped = spread_back(s.low) + 2 * spread_back(s.high);
+    let low = sided(s.attribute, s.low);
+    let high = sided(s.attribute, s.high);
     let q = 4 + bits::low8(s.attribute, 2) + bits::field(s.attribute, 5, 1) * 8;
-    numbers(sided(s.attribute, plain, flipped), bits::wide64(q))
+    numbers(low, high, bits::wide64(q))
 }
 
 // The old pixel if it is opaque, else the new one.

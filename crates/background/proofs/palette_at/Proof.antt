@@ -14,14 +14,17 @@ add-attribute c = search needs
 shared-slice-read-attribute : tie.Need-shared-slice-read-attribute
 shared-slice-read-attribute c = search needs
 
+cast-attribute : tie.Need-cast-attribute
+cast-attribute c = search needs
+
+shr-attribute : tie.Need-shr-attribute
+shr-attribute c = search needs
+
 low-requires : tie.Need-low-requires
 low-requires c κs = search needs
 
 mul-field : tie.Need-mul-field
 mul-field c = search needs
-
-add-field : tie.Need-add-field
-add-field c = search needs
 
 field-requires : tie.Need-field-requires
 field-requires c κs = search needs
@@ -35,8 +38,9 @@ palette-at-spec =
     (tie.spec
     add-attribute
     shared-slice-read-attribute
+    cast-attribute
+    shr-attribute
     low-requires
     mul-field
-    add-field
     field-requires
     returns)

@@ -4,9 +4,8 @@ use Rattle.background.proofs.put_column.Statement.{statement}
 use Rattle.background.proofs.put_column.Tie as tie
 use Rattle.background.proofs.put_column.Reads as reads
 use Rattle.background.proofs.put_column.Lts as lts
-use Rattle.background.proofs.palette_at.Reads as palette-at-reads
-use Rattle.pixels.proofs.put_tile.Reads as put-tile-reads
 use Rattle.bits.proofs.wide.Reads as wide-reads
+use Rattle.pixels.proofs.put_tile.Reads as put-tile-reads
 
 add-wide : tie.Need-add-wide
 add-wide c = search needs
@@ -16,9 +15,6 @@ shared-slice-read-wide c = search needs
 
 wide-requires : tie.Need-wide-requires
 wide-requires c κs = search needs
-
-palette-at-requires : tie.Need-palette-at-requires
-palette-at-requires c κs = search needs
 
 mul-byte : tie.Need-mul-byte
 mul-byte c = search needs
@@ -51,7 +47,6 @@ put-column-spec =
     add-wide
     shared-slice-read-wide
     wide-requires
-    palette-at-requires
     mul-byte
     add-byte
     shared-slice-read-plane0

@@ -9,29 +9,29 @@ use Rattle.background.proofs.run.Statement.{statement}
 use Rattle.background.proofs.run.Tie as tie
 use Rattle.background.proofs.run.Reads as reads
 use Rattle.background.proofs.run.Lts as lts
-use Rattle.background.proofs.put_column.Reads as put-column-reads
+use Rattle.background.proofs.put_group.Reads as put-group-reads
 
 abbrev Inv-loop : tie.InvT-loop
-Inv-loop table nametables s column n row₀ at t₀ row t = (t ≤ n) × (length row ≡ rowLength) × (row ≡ storeTab (stripPixel table nametables s column) (8 * at) (8 * t) row₀)
+Inv-loop table nametables s group n row₀ at t₀ row t = (t ≤ n) × (length row ≡ rowLength) × (row ≡ storeTab (stripPixel table nametables s (4 * group)) (32 * at) (32 * t) row₀)
 
 abbrev μ-loop : tie.MeasureT-loop
-μ-loop table nametables s column n row₀ at t₀ row t = n - t
+μ-loop table nametables s group n row₀ at t₀ row t = n - t
 
 loop-holds : tie.Need-loop-holds Inv-loop μ-loop
 unfolding storeTab
 loop-holds c = (search needs, search needs, refl)
 
-add-put-column : tie.Need-add-put-column Inv-loop μ-loop
-add-put-column c = search needs
+add-put-group : tie.Need-add-put-group Inv-loop μ-loop
+add-put-group c = search needs
 
-add-put-column-2 : tie.Need-add-put-column-2 Inv-loop μ-loop
-add-put-column-2 c = search needs
+add-put-group-2 : tie.Need-add-put-group-2 Inv-loop μ-loop
+add-put-group-2 c = search needs
 
-mul-put-column : tie.Need-mul-put-column Inv-loop μ-loop
-mul-put-column c = search needs
+mul-put-group : tie.Need-mul-put-group Inv-loop μ-loop
+mul-put-group c = search needs
 
-put-column-requires : tie.Need-put-column-requires Inv-loop μ-loop
-put-column-requires c κs = search needs
+put-group-requires : tie.Need-put-group-requires Inv-loop μ-loop
+put-group-requires c κs = search needs
 
 add-t : tie.Need-add-t Inv-loop μ-loop
 add-t c = search needs
@@ -55,10 +55,10 @@ run-spec =
     Inv-loop
     μ-loop
     loop-holds
-    add-put-column
-    add-put-column-2
-    mul-put-column
-    put-column-requires
+    add-put-group
+    add-put-group-2
+    mul-put-group
+    put-group-requires
     add-t
     loop-less
     loop-again

@@ -4,7 +4,6 @@ use Rattle.background.proofs.tiles.Statement.{statement}
 use Rattle.background.proofs.tiles.Tie as tie
 use Rattle.background.proofs.tiles.Reads as reads
 use Rattle.background.proofs.tiles.Lts as lts
-use Rattle.background.proofs.beside.Reads as beside-reads
 use Rattle.background.proofs.run.Reads as run-reads
 use Rattle.background.proofs.strip_at.Reads as strip-at-reads
 use Rattle.bits.proofs.low.Reads as low-reads
@@ -15,8 +14,17 @@ low-requires c κs = search needs
 low-requires-2 : tie.Need-low-requires-2
 low-requires-2 c κs = search needs
 
-beside-requires : tie.Need-beside-requires
-beside-requires c κs = search needs
+add-beside : tie.Need-add-beside
+add-beside c = search needs
+
+low-requires-3 : tie.Need-low-requires-3
+low-requires-3 c κs = search needs
+
+mul-beside : tie.Need-mul-beside
+mul-beside c = search needs
+
+sub-beside : tie.Need-sub-beside
+sub-beside c = search needs
 
 strip-at-requires : tie.Need-strip-at-requires
 strip-at-requires c κs = search needs
@@ -43,7 +51,7 @@ same-length : tie.Need-same-length
 same-length c = search needs
 
 returns : tie.Need-returns
-returns c = search tiles-cases
+returns c = search (tiles-cases, c .before .before .before .before .before .before .before .before .before .before .before .before .before .before .before .before .pre)
 
 pub tiles-spec : {M : Type 1} → statement M
 tiles-spec =
@@ -51,7 +59,10 @@ tiles-spec =
     (tie.spec
     low-requires
     low-requires-2
-    beside-requires
+    add-beside
+    low-requires-3
+    mul-beside
+    sub-beside
     strip-at-requires
     strip-at-requires-2
     sub-run

@@ -1,8 +1,4 @@
-use Prim.Native.Nat.{_+_, _*_}
-use mathlib.Core.Path.{_≡_, _∙_}
-use native.Mathlib.Omega.{arith}
-use Rattle.pixels.specs.Pack.{spreadOf, pixelsBy}
-use Rattle.pixels.proofs.Cases.{tile-stored}
+use Rattle.pixels.proofs.Cases.{tile-1}
 use borrow.Author.Needs.{needs}
 use Rattle.pixels.proofs.put_tile.Statement.{statement}
 use Rattle.pixels.proofs.put_tile.Tie as tie
@@ -19,12 +15,6 @@ spread-requires c κs = search needs
 spread-requires-2 : tie.Need-spread-requires-2
 spread-requires-2 c κs = search needs
 
-mul-colours : tie.Need-mul-colours
-mul-colours c = search needs
-
-add-colours : tie.Need-add-colours
-add-colours c = search needs
-
 wide64-requires : tie.Need-wide64-requires
 wide64-requires c κs = search needs
 
@@ -38,10 +28,7 @@ same-length : tie.Need-same-length
 same-length c = search needs
 
 returns : tie.Need-returns
-returns c =
-    let a = c .before .before .before .before .before .before .before .before .before .args in
-    let e : c .before .before .before .numbers .result ≡ pixelsBy (spreadOf (a .low) + 2 * spreadOf (a .high)) (a .palette) = cc in
-    c .before .before .put8 .ensures ∙ tile-stored (a .low) (a .high) (a .palette) (a .at) _ _ (omega arith) e
+returns c = let a = c .before .before .before .before .before .before .before .before .before .args in search (tile-1 (a .low) (a .high) (a .palette))
 
 pub put-tile-spec : {M : Type 1} → statement M
 put-tile-spec =
@@ -49,8 +36,6 @@ put-tile-spec =
     (tie.spec
     spread-requires
     spread-requires-2
-    mul-colours
-    add-colours
     wide64-requires
     numbers-requires
     put8-requires

@@ -1,5 +1,5 @@
 use Rattle.pixels.specs.Pack.{pack, spreadOf}
-use Rattle.pixels.proofs.Spreads.{spread-by, spread-fits, spread-most}
+use Rattle.pixels.proofs.Spreads.{spread-is}
 use borrow.Author.Needs.{needs}
 use Rattle.pixels.proofs.spread.Statement.{statement}
 use Rattle.pixels.proofs.spread.Tie as tie
@@ -14,11 +14,11 @@ mul-result : tie.Need-mul-result
 mul-result c = search needs
 
 add-result : tie.Need-add-result
-add-result c = search spread-fits
+add-result c = search needs
 
 returns : tie.Need-returns
 unfolding pack spreadOf
-returns c = (search spread-by, search spread-most)
+returns c = spread-is _ _ _ _ tt (c .wide64 .ensures .0) (search needs)
 
 pub spread-spec : {M : Type 1} → statement M
 spread-spec = tie.close (tie.spec wide64-requires mul-result add-result returns)

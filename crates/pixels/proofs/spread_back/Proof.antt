@@ -1,5 +1,6 @@
+use mathlib.Core.Path.{refl}
 use Rattle.pixels.specs.Pack.{pack, backOf}
-use Rattle.pixels.proofs.Spreads.{back-by, back-fits, back-most}
+use Rattle.pixels.proofs.Spreads.{back-is, back-fits}
 use borrow.Author.Needs.{needs}
 use Rattle.pixels.proofs.spread_back.Statement.{statement}
 use Rattle.pixels.proofs.spread_back.Tie as tie
@@ -28,7 +29,7 @@ add-result c = search back-fits
 
 returns : tie.Need-returns
 unfolding pack backOf
-returns c = (search back-by, search back-most)
+returns c = back-is _ _ _ _ _ _ _ _ tt (c .before .wide64 .ensures .0) (c .before .before .low8 .ensures) (c .wide642 .ensures .0) refl (search needs)
 
 pub spread-back-spec : {M : Type 1} → statement M
 spread-back-spec =
