@@ -187,8 +187,13 @@ fn draw(
         warm: false,
         board: board,
     };
-    background_shown(u, left, right, nametables, oam, line);
-    sprites_shown(u, left, right, oam, line)
+    // borrowed anew, the slices come here in registers
+    let l = &*left;
+    let r = &*right;
+    let n = &*nametables;
+    let o = &*oam;
+    background_shown(u, l, r, n, o, line);
+    sprites_shown(u, l, r, o, line)
 }
 
 // Status with bit 6 set by a hit.
