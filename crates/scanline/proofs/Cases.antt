@@ -1,25 +1,25 @@
 -- The ways of each function, for `search`.
 use Prim.Native.Nat.{ℕ, zero, suc, _+_, _-_, _*_, _/_, _%_, _<_, _≤_}
 use mathlib.Core.Path.{_≡_, refl, sym, ap, _∙_, subst}
-use mathlib.Core.Bool.{Bool, true, false, cond, _&&_}
+use mathlib.Core.Bool.{Bool, true, false, true≢false, cond, _&&_}
 use mathlib.Core.List.{List, []}
 use native.Mathlib.Omega.{arith}
 use native.Mathlib.Numerals.{add-one}
 use lib.Dec.{eqb, ltb}
 use lib.ListN.{length, getD, take}
-use borrow.Author.Tests.{eq-eqb, ne-eqb, lt-ltb, le-ltb}
+use borrow.Author.Tests.{lt-ltb, le-ltb, ltb-true}
 use Rattle.model.specs.declared.Ppu.{Ppu}
 use Rattle.model.specs.Unit.{unit, withScanline, State, state, lineMemory, bit, lastLine, isRendering, isWellFormed}
 use Rattle.model.specs.Address.{tableOf}
 use Rattle.model.specs.Scroll.{rowDown, copySide}
 use Rattle.model.specs.Background.{backgroundAt}
 use Rattle.model.specs.Sprites.{overflows}
-use Rattle.model.specs.Line.{tab, anyOf, marked, hitOf, statusOf, picture, drawnUnit, drawnLine, blankUnit, oneLine, linesRun, untilVblank, nmiCount}
+use Rattle.model.specs.Line.{tab, anyOf, marked, hitOf, statusOf, pixelOf, picture, drawnUnit, drawnLine, blankUnit, oneLine, linesRun, untilVblank, nmiCount}
 use Rattle.model.proofs.Scroll.{down-lt}
 use Rattle.model.proofs.Kept.{well}
 use Rattle.model.proofs.Good.{good-of, line-good}
 use Rattle.model.proofs.Line.{line-board, until-formula}
-use Rattle.scanline.specs.Shown.{LineLengths, backOf}
+use Rattle.scanline.specs.Shown.{LineLengths, backOf, seen}
 use Rattle.scanline.proofs.Laws.{back-1, back-2, drawn-off}
 
 -- the background as shown
@@ -70,41 +70,68 @@ module _ (u : Ppu) (h : isWellFormed u ≡ true) where
   pub scanline-small : u .scanline < 262
   scanline-small = good-of u h .scanline
 
-  pub down-small : (v : ℕ) → v ≡ rowDown (u .v) → v < 32768
-  down-small v e = rw e (down-lt (u .v) v-small)
+pub down-small : (v v′ : ℕ) → v < 32768 → v′ ≡ rowDown v → v′ < 32768
+down-small v v′ h e = rw e (down-lt v h)
 
-pub ruleset formed-parts = (v-small, x-small, scanline-small, down-small)
+-- whether a line is drawn
+module _ (u : Ppu) where
+  pub draws-1 : (b : Bool) → u .scanline < 240 → b ≡ isRendering u → b ≡ (ltb (u .scanline) 240 && isRendering u)
+  draws-1 b h e = e ∙ rw (lt-ltb (u .scanline) 240 h)
 
-pub rendering-on : (u : Ppu) (b : Bool) → b ≡ isRendering u → b ≡ true → isRendering u ≡ true
-rendering-on u b e t = sym e ∙ t
+  pub draws-2 : 240 ≤ u .scanline → false ≡ (ltb (u .scanline) 240 && isRendering u)
+  draws-2 h = rw (le-ltb (u .scanline) 240 h)
 
--- a drawn line's unit
-module _ (u x : Ppu) (l r n o : List ℕ) (on : Bool) (eo : on ≡ isRendering u) where
-  pub unit-1 : (hit over : Bool) (v v′ s s′ : ℕ) → on ≡ true → hit ≡ anyOf (hitOf u l r n o) 256 → over ≡ overflows (u .control) o (u .scanline)
-      → v ≡ rowDown (u .v) → v′ ≡ copySide (u .t) v → s ≡ marked 64 hit (u .status) → s′ ≡ marked 32 over s
-      → x ≡ unit (u .control) (u .mask) s′ 0 v′ (u .t) (u .x) (u .w) (u .buffer) (u .latch) (u .scanline + 1) (u .warm) (u .board) → x ≡ drawnUnit u l r n o
-  unfolding drawnUnit statusOf
-  unit-1 hit over v v′ s s′ t eh ev e₁ e₂ e₃ e₄ d = d ∙ rw (e₄, e₃, e₂, e₁, eh, ev, ← eo, t)
+pub draws-not : (u : Ppu) (d : Bool) → d ≡ (ltb (u .scanline) 240 && isRendering u) → d ≡ false → ltb (u .scanline) 240 && isRendering u ≡ false
+draws-not u d e f = sym e ∙ f
 
-  pub unit-2 : on ≡ false → x ≡ withScanline u (u .scanline + 1) → x ≡ drawnUnit u l r n o
-  unfolding drawnUnit statusOf marked
-  unit-2 f d = d ∙ rw (← eo, f)
+pub ruleset draws-cases = (draws-1, draws-2)
 
-pub off-1 : (u : Ppu) (l r n o b b′ : List ℕ) (on : Bool) → LineLengths (u .board) l r n o b → length b′ ≡ length b → on ≡ isRendering u → on ≡ false
-    → ((p : ℕ) → getD b′ p 0 ≡ cond (ltb p 256) 0 (getD b p 0)) → b′ ≡ picture u l r n o
-off-1 u l r n o b b′ on long h e f c = drawn-off u l r n o b b′ (sym e ∙ f) (h ∙ long .line) c
+and-parts : (a b : Bool) → a && b ≡ true → (a ≡ true) × (b ≡ true)
+and-parts true b h = (refl, h)
+and-parts false b h = absurd (true≢false (sym h))
 
--- one line
-module _ (u x : Ppu) (l r n o b b′ : List ℕ) where
-  pub line-1 : u .scanline < 240 → x ≡ drawnUnit u l r n o → b′ ≡ picture u l r n o → state x (lineMemory l r n o b′) ≡ oneLine (state u (lineMemory l r n o b))
-  unfolding oneLine drawnLine
-  line-1 h e d = rw (e, d, lt-ltb (u .scanline) 240 h)
+-- a line that is drawn
+module _ (u : Ppu) (d : Bool) (ed : d ≡ (ltb (u .scanline) 240 && isRendering u)) (t : d ≡ true) where
+  pub drawn-low : u .scanline < 240
+  drawn-low = ltb-true (u .scanline) 240 (and-parts (ltb (u .scanline) 240) (isRendering u) (sym ed ∙ t) .0)
 
-  pub line-2 : 240 ≤ u .scanline → x ≡ blankUnit u → b′ ≡ b → state x (lineMemory l r n o b′) ≡ oneLine (state u (lineMemory l r n o b))
+  pub drawn-shown : isRendering u ≡ true
+  drawn-shown = and-parts (ltb (u .scanline) 240) (isRendering u) (sym ed ∙ t) .1
+
+  pub drawn-seen : isRendering (seen (u .control) (u .mask) (u .v) (u .x) (u .scanline) (u .board)) ≡ true
+  unfolding isRendering
+  drawn-seen = drawn-shown
+
+  pub line-1 : (l r n o b b′ : List ℕ) (hit over : Bool) (x : Ppu) → b′ ≡ picture (seen (u .control) (u .mask) (u .v) (u .x) (u .scanline) (u .board)) l r n o
+      → hit ≡ anyOf (hitOf (seen (u .control) (u .mask) (u .v) (u .x) (u .scanline) (u .board)) l r n o) 256 → over ≡ overflows (u .control) o (u .scanline)
+      → ((l r n o : List ℕ) → hit ≡ anyOf (hitOf u l r n o) 256 → over ≡ overflows (u .control) o (u .scanline) → x ≡ drawnUnit u l r n o)
+      → state x (lineMemory l r n o b′) ≡ oneLine (state u (lineMemory l r n o b))
+  unfolding oneLine drawnLine picture pixelOf isRendering hitOf
+  line-1 l r n o b b′ hit over x ep eh eo ex = rw (ep, ex l r n o eh eo, lt-ltb (u .scanline) 240 drawn-low)
+
+-- the unit after it
+pub after-drawn : (u x : Ppu) (hit over : Bool) (v v′ s s′ : ℕ) → isRendering u ≡ true
+    → v ≡ rowDown (u .v) → v′ ≡ copySide (u .t) v → s ≡ marked 64 hit (u .status) → s′ ≡ marked 32 over s
+    → x ≡ unit (u .control) (u .mask) s′ 0 v′ (u .t) (u .x) (u .w) (u .buffer) (u .latch) (u .scanline + 1) (u .warm) (u .board)
+    → (l r n o : List ℕ) → hit ≡ anyOf (hitOf u l r n o) 256 → over ≡ overflows (u .control) o (u .scanline) → x ≡ drawnUnit u l r n o
+unfolding drawnUnit statusOf
+after-drawn u x hit over v v′ s s′ on e₁ e₂ e₃ e₄ d l r n o eh ev = d ∙ rw (e₄, e₃, e₂, e₁, eh, ev, on)
+
+-- a line that is not drawn
+module _ (u x : Ppu) (l r n o b b′ : List ℕ) (h : ltb (u .scanline) 240 && isRendering u ≡ false) where
+  off : u .scanline < 240 → isRendering u ≡ false
+  off k = sym (ap (λ (z : Bool). z && isRendering u) (lt-ltb (u .scanline) 240 k)) ∙ h
+
+  pub undrawn-1 : u .scanline < 240 → LineLengths (u .board) l r n o b → length b′ ≡ length b → ((p : ℕ) → getD b′ p 0 ≡ cond (ltb p 256) 0 (getD b p 0))
+      → x ≡ withScanline u (u .scanline + 1) → state x (lineMemory l r n o b′) ≡ oneLine (state u (lineMemory l r n o b))
+  unfolding oneLine drawnLine drawnUnit statusOf marked
+  undrawn-1 k long e c d = rw (d, drawn-off u l r n o b b′ (off k) (e ∙ long .line) c, lt-ltb (u .scanline) 240 k, off k)
+
+  pub undrawn-2 : 240 ≤ u .scanline → x ≡ blankUnit u → b′ ≡ b → state x (lineMemory l r n o b′) ≡ oneLine (state u (lineMemory l r n o b))
   unfolding oneLine
-  line-2 h e d = rw (e, d, le-ltb (u .scanline) 240 h)
+  undrawn-2 k e d = rw (e, d, le-ltb (u .scanline) 240 k)
 
-pub ruleset line-cases = (line-1, line-2)
+pub ruleset undrawn-cases = (undrawn-1, undrawn-2)
 
 -- a run: after i lines
 pub record Running (l r n o : List ℕ) (most : ℕ) (u₀ : Ppu) (b₀ b : List ℕ) (u : Ppu) (i : ℕ) : Type 0 where

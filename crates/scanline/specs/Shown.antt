@@ -1,13 +1,13 @@
 -- What the drawing of a line requires, and its steps: the background as shown, the sprites over it, the flags.
 use mathlib.Core.Path.{_≡_}
-use mathlib.Core.Bool.{Bool, _&&_}
+use mathlib.Core.Bool.{Bool, false, _&&_}
 use mathlib.Core.List.{List}
 use Prim.Native.Nat.{ℕ}
 use lib.Dec.{ltb}
 use lib.ListN.{length, getD}
 use Rattle.model.specs.declared.Ppu.{Ppu}
 use Rattle.model.specs.declared.Board.{Board}
-use Rattle.model.specs.Unit.{patternLength, nametableLength, oamLength, lineLength}
+use Rattle.model.specs.Unit.{unit, patternLength, nametableLength, oamLength, lineLength}
 use Rattle.model.specs.Background.{backgroundShown}
 use Rattle.model.specs.Sprites.{spriteOn, spriteZeroOn, spriteShown}
 use Rattle.model.specs.Line.{tab, anyOf, merged, backgroundOn}
@@ -19,6 +19,10 @@ pub record LineLengths (d : Board) (l r n o b : List ℕ) : Type 0 where
   pub nametables : length n ≡ nametableLength d
   pub oam : length o ≡ oamLength
   pub line : length b ≡ lineLength
+
+-- a unit of the parts that a line's pixels and flags depend on, the rest zero
+abbrev pub seen : ℕ → ℕ → ℕ → ℕ → ℕ → Board → Ppu
+seen c m v x n d = unit c m 0 0 v 0 x false 0 0 n false d
 
 -- the background in column p, as the mask shows it
 unfoldable pub backOf : Ppu → List ℕ → List ℕ → List ℕ → ℕ → ℕ

@@ -1,10 +1,10 @@
 // One line, and runs of lines. Inner functions, not public calls: they require the lengths and the well-formed unit
 // that a call has checked.
-// A drawn line: background_shown, zero_hits, overlay, sprites_on, sprites_shown, draw, with_hit, with_overflow, drawn_line.
-// Any line: one_line. Runs: run, until_vblank, nmi_count.
+// A drawn line: background_shown, zero_hits, overlay, sprites_on, sprites_shown, draw.
+// The unit after it: with_hit, with_overflow, drawn. Any line: draws, undrawn, one_line. Runs: run, until_vblank, nmi_count.
 ghost use mathlib.Core.Path.{_≡_};
 ghost use mathlib.Core.Bool.{cond, true, false, _&&_};
-ghost use mathlib.Core.List.{[]};
+ghost use mathlib.Core.List.{List, []};
 ghost use Prim.Native.Nat.{ℕ, _+_, _-_, _%_, _<_, _≤_};
 ghost use lib.Dec.{eqb, ltb};
 ghost use lib.ListN.{length, getD, take};
@@ -29,7 +29,9 @@ ghost use Rattle.scanline.specs.Shown.{
   zeroOf,
   overLine,
   hitLine,
+  seen,
 };
+use model::Board;
 use model::Ppu;
 
 // What drawing a line finds beside its pixels: sprite 0 hit, overflow.
@@ -150,15 +152,48 @@ fn sprites_shown(u: Ppu, left: &[u8], right: &[u8], oam: &[u8], line: &mut [u8])
     Flags { hit: false, over }
 }
 
-// The 256 pixel numbers of a line with mask bit 3 or 4, and the flags.
-fn draw(u: Ppu, left: &[u8], right: &[u8], nametables: &[u8], oam: &[u8], line: &mut [u8]) -> Flags
-    requires { ⌜ LineLengths (u .board) (now left) (now right) (now nametables) (now oam) (now line) × (u .v < 32768) × (u .x < 8) × (u .scanline < 240) × (isRendering u ≡ true) ⌝ }
-    ensures { λ r. ⌜ (now (line .exit) ≡ picture u (now (left .entry)) (now (right .entry)) (now (nametables .entry)) (now (oam .entry)))
-        × (r .hit ≡ anyOf (hitOf u (now (left .entry)) (now (right .entry)) (now (nametables .entry)) (now (oam .entry))) lineLength)
-        × (r .over ≡ overflows (u .control) (now (oam .entry)) (u .scanline)) ⌝ }
+// The 256 pixel numbers of a line with mask bit 3 or 4, and the flags. It takes the parts of the unit that it needs, and both its callers
+// call it directly: so it is the one function of a line that stays a call, and the unit need not go through memory.
+fn draw(
+    control: u8,
+    mask: u8,
+    v: u16,
+    x: u8,
+    scanline: u16,
+    board: Board,
+    left: &[u8],
+    right: &[u8],
+    nametables: &[u8],
+    oam: &[u8],
+    line: &mut [u8],
+) -> Flags
+    requires { ⌜ LineLengths board (now left) (now right) (now nametables) (now oam) (now line) × (v < 32768) × (x < 8) × (scanline < 240) × (isRendering (seen control mask v x scanline board) ≡ true) ⌝ }
+    ensures { λ r. ⌜ (now (line .exit) ≡ picture (seen control mask v x scanline board) (now (left .entry)) (now (right .entry)) (now (nametables .entry)) (now (oam .entry)))
+        × (r .hit ≡ anyOf (hitOf (seen control mask v x scanline board) (now (left .entry)) (now (right .entry)) (now (nametables .entry)) (now (oam .entry))) lineLength)
+        × (r .over ≡ overflows control (now (oam .entry)) scanline) ⌝ }
 {
-    background_shown(u, left, right, nametables, oam, line);
-    sprites_shown(u, left, right, oam, line)
+    let u = Ppu {
+        control: control,
+        mask: mask,
+        status: 0,
+        oamaddr: 0,
+        v: v,
+        t: 0,
+        x: x,
+        w: false,
+        buffer: 0,
+        latch: 0,
+        scanline: scanline,
+        warm: false,
+        board: board,
+    };
+    // borrowed anew, the slices come here in registers
+    let l = &*left;
+    let r = &*right;
+    let n = &*nametables;
+    let o = &*oam;
+    background_shown(u, l, r, n, o, line);
+    sprites_shown(u, l, r, o, line)
 }
 
 // Status with bit 6 set by a hit.
@@ -181,35 +216,45 @@ fn with_overflow(status: u8, over: bool) -> u8
     status
 }
 
-// A line from 0 to 239: its pixels, and the unit after it.
-fn drawn_line(
-    u: Ppu,
-    left: &[u8],
-    right: &[u8],
-    nametables: &[u8],
-    oam: &[u8],
-    line: &mut [u8],
-) -> Ppu
-    requires { ⌜ LineLengths (u .board) (now left) (now right) (now nametables) (now oam) (now line) × (isWellFormed u ≡ true) × (u .scanline < 240) ⌝ }
-    ensures { λ r. ⌜ (r ≡ drawnUnit u (now (left .entry)) (now (right .entry)) (now (nametables .entry)) (now (oam .entry))) × (now (line .exit) ≡ picture u (now (left .entry)) (now (right .entry)) (now (nametables .entry)) (now (oam .entry))) ⌝ }
+// The next line is 0 to 239, and mask bit 3 or 4 is set.
+fn draws(u: Ppu) -> bool
+    ensures { λ r. ⌜ r ≡ (ltb (u .scanline) 240 && isRendering u) ⌝ }
 {
-    if unit::rendering(u) {
-        let f = draw(u, left, right, nametables, oam, line);
-        let v = unit::copy_side(u.t, unit::row_down(u.v));
-        let status = with_overflow(with_hit(u.status, f.hit), f.over);
+    if u.scanline < 240 {
+        return unit::rendering(u);
+    }
+    false
+}
+
+// The unit after a line that was drawn, from the flags that it found.
+fn drawn(u: Ppu, hit: bool, over: bool) -> Ppu
+    requires { ⌜ (u .v < 32768) × (u .scanline < 240) × (isRendering u ≡ true) ⌝ }
+    ensures { λ r. ⌜ ((l r′ n o : List ℕ) → hit ≡ anyOf (hitOf u l r′ n o) lineLength → over ≡ overflows (u .control) o (u .scanline) → r ≡ drawnUnit u l r′ n o) ⌝ }
+{
+    let down = unit::copy_side(u.t, unit::row_down(u.v));
+    let status = with_overflow(with_hit(u.status, hit), over);
+    Ppu {
+        status: status,
+        oamaddr: 0,
+        v: down,
+        scanline: u.scanline + 1,
+        ..u
+    }
+}
+
+// A line that is not drawn: all zero from 0 to 239, untouched from 240 on; and the unit after it.
+fn undrawn(u: Ppu, left: &[u8], right: &[u8], nametables: &[u8], oam: &[u8], line: &mut [u8]) -> Ppu
+    requires { ⌜ LineLengths (u .board) (now left) (now right) (now nametables) (now oam) (now line) × (isWellFormed u ≡ true) × (ltb (u .scanline) 240 && isRendering u ≡ false) ⌝ }
+    ensures { λ r. ⌜ state r (lineMemory (now (left .entry)) (now (right .entry)) (now (nametables .entry)) (now (oam .entry)) (now (line .exit))) ≡ oneLine (state u (lineMemory (now (left .entry)) (now (right .entry)) (now (nametables .entry)) (now (oam .entry)) (now (line .entry)))) ⌝ }
+{
+    if u.scanline < 240 {
+        pixels::clear(line, 256);
         return Ppu {
-            status: status,
-            oamaddr: 0,
-            v: v,
             scanline: u.scanline + 1,
             ..u
         };
     }
-    pixels::clear(line, 256);
-    Ppu {
-        scanline: u.scanline + 1,
-        ..u
-    }
+    unit::blank_line(u)
 }
 
 // One line.
@@ -224,10 +269,24 @@ pub fn one_line(
     requires { ⌜ LineLengths (u .board) (now left) (now right) (now nametables) (now oam) (now line) × (isWellFormed u ≡ true) ⌝ }
     ensures { λ r. ⌜ state r (lineMemory (now (left .entry)) (now (right .entry)) (now (nametables .entry)) (now (oam .entry)) (now (line .exit))) ≡ oneLine (state u (lineMemory (now (left .entry)) (now (right .entry)) (now (nametables .entry)) (now (oam .entry)) (now (line .entry)))) ⌝ }
 {
-    if u.scanline < 240 {
-        return drawn_line(u, left, right, nametables, oam, line);
+    if draws(u) {
+        let board = u.board;
+        let f = draw(
+            u.control,
+            u.mask,
+            u.v,
+            u.x,
+            u.scanline,
+            board,
+            left,
+            right,
+            nametables,
+            oam,
+            line,
+        );
+        return drawn(u, f.hit, f.over);
     }
-    unit::blank_line(u)
+    undrawn(u, left, right, nametables, oam, line)
 }
 
 // n lines.
@@ -246,8 +305,26 @@ pub fn run(
     let mut next = u;
     let mut i: u16 = 0;
     while i < n {
-        next = one_line(next, left, right, nametables, oam, line);
         i += 1;
+        if draws(next) {
+            let board = next.board;
+            let f = draw(
+                next.control,
+                next.mask,
+                next.v,
+                next.x,
+                next.scanline,
+                board,
+                left,
+                right,
+                nametables,
+                oam,
+                line,
+            );
+            next = drawn(next, f.hit, f.over);
+            continue;
+        }
+        next = undrawn(next, left, right, nametables, oam, line);
     }
     next
 }

@@ -1,0 +1,22 @@
+use Rattle.scanline.proofs.Cases.{draws-cases}
+use borrow.Author.Needs.{needs}
+use Rattle.scanline.proofs.draws.Statement.{statement}
+use Rattle.scanline.proofs.draws.Tie as tie
+use Rattle.scanline.proofs.draws.Reads as reads
+use Rattle.scanline.proofs.draws.Lts as lts
+use Rattle.unit.proofs.rendering.Reads as rendering-reads
+
+-- src/lib.rt:219:9
+rendering-requires : tie.Need-rendering-requires
+rendering-requires c κs = search needs
+
+-- src/lib.rt:219:9
+returns : tie.Need-returns
+returns c = search draws-cases
+
+-- src/lib.rt:215:1
+returns-2 : tie.Need-returns-2
+returns-2 c = search draws-cases
+
+pub draws-spec : {M : Type 1} → statement M
+draws-spec = tie.close (tie.spec rendering-requires returns returns-2)
