@@ -1,0 +1,77 @@
+#include <png.h>
+#include <stdlib.h>
+#include <string.h>
+#include "encode.h"
+#include "tool.h"
+
+/* the PNG so far */
+static struct {
+    uint8_t *bytes;
+    size_t length, room;
+} made;
+
+static void add(png_structp png, png_bytep bytes, size_t length)
+{
+    if (made.length + length > made.room) {
+        made.room = 2 * (made.length + length);
+        made.bytes = realloc(made.bytes, made.room);
+    }
+    if (!made.bytes)
+        png_error(png, "no memory");
+    memcpy(made.bytes + made.length, bytes, length);
+    made.length += length;
+}
+
+static void flush(png_structp png) { (void)png; }
+
+static void failed(png_structp png, png_const_charp message)
+{
+    (void)png;
+    give_up(BAD_FILE, "libpng: %s", message);
+}
+
+static void write_header(png_structp png, png_infop info, const Form *form)
+{
+    png_set_IHDR(png, info, PICTURE_WIDTH * form->scale, PICTURE_HEIGHT * form->scale, 8,
+                 form->palette ? PNG_COLOR_TYPE_PALETTE : PNG_COLOR_TYPE_GRAY, PNG_INTERLACE_NONE, PNG_COMPRESSION_TYPE_DEFAULT,
+                 PNG_FILTER_TYPE_DEFAULT);
+    if (form->palette) {
+        png_color colours[COLOURS];
+        for (int i = 0; i < COLOURS; i++) {
+            colours[i].red = form->palette[3 * i];
+            colours[i].green = form->palette[3 * i + 1];
+            colours[i].blue = form->palette[3 * i + 2];
+        }
+        png_set_PLTE(png, info, colours, COLOURS);
+    }
+    png_write_info(png, info);
+}
+
+static void write_rows(png_structp png, const uint8_t *picture, unsigned scale)
+{
+    static uint8_t row[PICTURE_WIDTH * 16];
+    for (int y = 0; y < PICTURE_HEIGHT; y++) {
+        for (unsigned x = 0; x < PICTURE_WIDTH * scale; x++)
+            row[x] = picture[PICTURE_WIDTH * y + x / scale];
+        for (unsigned i = 0; i < scale; i++)
+            png_write_row(png, row);
+    }
+}
+
+const uint8_t *encode(const uint8_t *picture, const Form *form, size_t *length)
+{
+    png_structp png = png_create_write_struct(PNG_LIBPNG_VER_STRING, NULL, failed, NULL);
+    png_infop info = png ? png_create_info_struct(png) : NULL;
+    if (!info)
+        give_up(BAD_FILE, "libpng: no memory");
+    made.length = 0;
+    png_set_write_fn(png, NULL, add, flush);
+    png_set_compression_level(png, LEVEL);
+    png_set_filter(png, 0, PNG_FILTER_NONE);
+    write_header(png, info, form);
+    write_rows(png, picture, form->scale);
+    png_write_end(png, NULL);
+    png_destroy_write_struct(&png, &info);
+    *length = made.length;
+    return made.bytes;
+}
