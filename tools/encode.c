@@ -4,6 +4,9 @@
 #include "encode.h"
 #include "tool.h"
 
+/* zlib's quickest: pictures of random tiles come out a third larger than with its best, in a third of the time */
+#define COMPRESSION 1
+
 /* the PNG so far */
 static struct {
     uint8_t *bytes;
@@ -51,8 +54,8 @@ static void write_rows(png_structp png, const uint8_t *picture, unsigned scale)
 {
     static uint8_t row[PICTURE_WIDTH * 16];
     for (int y = 0; y < PICTURE_HEIGHT; y++) {
-        for (unsigned x = 0; x < PICTURE_WIDTH * scale; x++)
-            row[x] = picture[PICTURE_WIDTH * y + x / scale];
+        for (unsigned x = 0; x < PICTURE_WIDTH; x++)
+            memset(row + x * scale, picture[PICTURE_WIDTH * y + x], scale);
         for (unsigned i = 0; i < scale; i++)
             png_write_row(png, row);
     }
@@ -66,7 +69,7 @@ const uint8_t *encode(const uint8_t *picture, const Form *form, size_t *length)
         give_up(BAD_FILE, "libpng: no memory");
     made.length = 0;
     png_set_write_fn(png, NULL, add, flush);
-    png_set_compression_level(png, LEVEL);
+    png_set_compression_level(png, COMPRESSION);
     png_set_filter(png, 0, PNG_FILTER_NONE);
     write_header(png, info, form);
     write_rows(png, picture, form->scale);

@@ -12,7 +12,7 @@
 #include "tool.h"
 
 #define NAME_LENGTH 4096
-#define SHOWN_REFUSALS 20
+#define SHOWN_REFUSALS 10
 #define PICTURE_SIZE (PICTURE_WIDTH * PICTURE_HEIGHT)
 
 static const char help[] =
@@ -60,7 +60,7 @@ static const char help_numbers[] =
     "  3  the unit or its board is not well formed\n"
     "  4  a read of port 4 or 7, or a write of port 7, while drawing\n"
     "  5  the record has an unknown kind, a last byte that must be 0 and is not, or is cut short\n"
-    "The play goes on, but it ends at a 5; pictures before it are kept. The first 20 are shown, the others counted.\n"
+    "The play goes on, but it ends at a 5; pictures before it are kept. The first 10 are shown, the others counted.\n"
     "\n"
     "Exit status\n"
     "  0  done, also where records were refused with 1 to 4\n"
