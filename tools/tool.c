@@ -1,4 +1,4 @@
-#define _POSIX_C_SOURCE 200809L
+#define _XOPEN_SOURCE 700
 #include <errno.h>
 #include <fcntl.h>
 #include <getopt.h>
@@ -109,7 +109,7 @@ static int is_special(const char *path)
     return stat(path, &status) == 0 && !S_ISREG(status.st_mode);
 }
 
-/* A signal that ends the program takes the part away; one that is ignored stays so. */
+/* A signal that ends the program takes the part away; one that is ignored stays so. A file that grows too large is an error of its write. */
 static void catch_signals(void)
 {
     static const int signals[] = { SIGHUP, SIGINT, SIGTERM, SIGPIPE };
@@ -117,6 +117,7 @@ static void catch_signals(void)
     for (size_t i = 0; !caught && i < sizeof signals / sizeof *signals; i++)
         if (signal(signals[i], SIG_IGN) != SIG_IGN)
             signal(signals[i], end_by);
+    signal(SIGXFSZ, SIG_IGN);
     caught = 1;
 }
 
