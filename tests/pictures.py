@@ -25,7 +25,7 @@ def need(holds, text):
 
 
 class Png:
-    """A PNG of 8 bits a pixel, grey or with a palette, every row without a filter: width, height, rows, and colours as RRGGBB."""
+    """A PNG of 8 bits a pixel, grey or with a palette, rows without a filter or as differences from the row above."""
 
     def __init__(self, path):
         data = Path(path).read_bytes()
@@ -45,8 +45,13 @@ class Png:
         need((self.palette is not None) == (header[9] == 3), f"{path}: a palette and grey")
         raw, step = zlib.decompress(chunks[b"IDAT"]), self.width + 1
         need(len(raw) == step * self.height, f"{path}: {len(raw)} bytes")
-        need(not any(raw[::step]), f"{path}: a filter")
-        self.rows = [raw[y * step + 1:(y + 1) * step] for y in range(self.height)]
+        self.rows, above = [], bytes(self.width)
+        for kind, row in ((raw[at], raw[at + 1:at + step]) for at in range(0, len(raw), step)):
+            need(kind in (0, 2), f"{path}: filter {kind}")
+            if kind == 2:
+                row = bytes((a + b) % 256 for a, b in zip(above, row)) if any(row) else above
+            self.rows.append(row)
+            above = row
 
     def numbers(self):
         """The pixel numbers that the grey levels stand for: black is 0, else 69 + 6n."""

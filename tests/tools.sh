@@ -2,6 +2,7 @@
 # The commands of tools/ on the archive: pictures against the captures and against drawings of tests/pictures.py; ppu-log both ways; batches,
 # one that goes on after an interruption too; bad input to each: one line, a status, no file left behind.
 # PPU_ARCHIVE names another archive than target/staticlib/libppu.a. Without libpng only ppu-log is tested, and it says so.
+# shellcheck disable=SC2016 # a $ in quotes is the mark of a hexadecimal number here
 set -euo pipefail
 cd "$(dirname "$0")/.."
 root=$PWD
@@ -226,15 +227,15 @@ picture_refusals() {
     same "the refusals" errors expected
     text 'pictures 2 of 2, records 8, refused 1:1 2:0 3:0 4:3 5:1' >expected
     same "their sum" sum expected
-    [ "$status" -eq 4 ] && [ "$(find refused -name '*.png' | wc -l)" -eq 2 ] || fail "status $status, or not the two pictures before the 5"
+    { [ "$status" -eq 4 ] && [ "$(find refused -name '*.png' | wc -l)" -eq 2 ]; } || fail "status $status, or not the two pictures before the 5"
     log_of refused.log 'RUN 262' 'R 1FFF' 'RUN 1'
     ppu-picture -o refused refused.log 2>errors || fail "status $? though not --strict"
     status=0
     ppu-picture --strict -o refused refused.log 2>errors || status=$?
-    [ "$status" -eq 1 ] && [ "$(wc -l <errors)" -eq 1 ] || fail "--strict: status $status"
+    { [ "$status" -eq 1 ] && [ "$(wc -l <errors)" -eq 1 ]; } || fail "--strict: status $status"
     { text 'RUN 262' && printf 'R 4000\n%.0s' {1..5000}; } | ppu-log make -o refused.log
     ppu-picture -o refused refused.log 2>errors
-    [ "$(wc -l <errors)" -eq 11 ] && grep -q ': 5000 records refused in all: 5000 with 1, 0 with 2' errors || fail "many refusals: $(wc -l <errors) lines"
+    { [ "$(wc -l <errors)" -eq 11 ] && grep -q ': 5000 records refused in all: 5000 with 1, 0 with 2' errors; } || fail "many refusals: $(wc -l <errors) lines"
     passed 4
     rm -r refused refused.log sum errors expected
     echo "  ppu-picture: refusals by record and number, what goes on and what ends, --strict"
@@ -281,7 +282,7 @@ picture_errors() {
 picture_full_disk() {
     local status=0
     (ulimit -f 8 && exec ppu-picture --scale 16 -o full captured/hit8.log 2>errors) || status=$?
-    [ "$status" -eq 3 ] && grep -q ': cannot be written: File too large' errors || fail "a file that cannot grow: status $status, $(cat errors)"
+    { [ "$status" -eq 3 ] && grep -q ': cannot be written: File too large' errors; } || fail "a file that cannot grow: status $status, $(cat errors)"
     [ -z "$(find full -name '*.part')" ] || fail "left $(ls full)"
     passed
     rm -r full errors
@@ -342,12 +343,12 @@ batch_failures() {
     text 'ppu-batch: cut.log: record 3: refused 5: record cut short, 1 of 4 bytes' 'ppu-batch: empty.log: the log is empty, no picture' \
         'ppu-batch: nowhere.log: No such file or directory' >expected
     same "what failed" sorted expected
-    [ "$status" -eq 1 ] && [ "$(ls drawn)" = "$(text cut picture)" ] && [ "$(wc -l <drawn/cut/errors.txt)" -eq 2 ] || fail "status $status, $(ls drawn)"
+    { [ "$status" -eq 1 ] && [ "$(ls drawn)" = "$(text cut picture)" ] && [ "$(wc -l <drawn/cut/errors.txt)" -eq 2 ]; } || fail "status $status, $(ls drawn)"
     ppu-batch drawn cut.log "$root/examples/picture.log" >sum 2>errors && fail "a log that fails was passed over"
     sums 0 1 1 5 '2: 1 with 1, 0 with 2, 0 with 3, 0 with 4, 1 with 5'
     mkdir -p drawn/paper/mine
     ppu-batch drawn "$root/examples/paper.log" >sum 2>errors && fail "a folder that is not of ppu-batch was taken"
-    [ -d drawn/paper/mine ] && grep -q '^ppu-batch: drawn/paper: cannot be put in place' errors || fail "another's folder: $(cat errors)"
+    { [ -d drawn/paper/mine ] && grep -q '^ppu-batch: drawn/paper: cannot be put in place' errors; } || fail "another's folder: $(cat errors)"
     passed 3
     rm -r drawn cut.log empty.log sum errors sorted expected
 }
@@ -368,9 +369,9 @@ batch_interrupted() { # SIGNAL
     kill -s "$1" -- "-$batch"
     wait "$batch" 2>/dev/null || status=$?
     exec 4>&-
-    [ "$status" -ne 0 ] && [ ! -e drawn/slow ] || fail "interrupted by $1: status $status, $(ls drawn)"
+    { [ "$status" -ne 0 ] && [ ! -e drawn/slow ]; } || fail "interrupted by $1: status $status, $(ls drawn)"
     if [ "$1" = TERM ]; then
-        [ "$status" -eq 130 ] && grep -q '^ppu-batch: interrupted' errors || fail "interrupted: status $status, $(cat errors)"
+        { [ "$status" -eq 130 ] && grep -q '^ppu-batch: interrupted' errors; } || fail "interrupted: status $status, $(cat errors)"
     fi
     rm slow.log
     cp captured/hit8.log slow.log
