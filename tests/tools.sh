@@ -152,6 +152,26 @@ LINES
     rm wrong.txt
 }
 
+# A command that a signal ends takes away what it had begun to write.
+log_interrupted() {
+    local shower status=0 wait
+    mkfifo slow.log
+    exec 4<>slow.log
+    ppu-log show slow.log -o shown 4>&- &
+    shower=$!
+    for wait in $(seq 200); do
+        [ ! -e "shown.$shower.part" ] || break
+        sleep 0.02
+    done
+    [ "$wait" -lt 200 ] || fail "no shown.$shower.part"
+    kill -s TERM "$shower"
+    wait "$shower" 2>/dev/null || status=$?
+    exec 4>&-
+    rm slow.log
+    { [ "$status" -eq 143 ] && [ "$(ls)" = "$(text captured raw)" ]; } || fail "ended by a signal: status $status, $(ls)"
+    passed
+}
+
 # PICTURES
 
 picture_captures() {
@@ -314,7 +334,13 @@ batch_runs() {
     touch -d '1 hour' touched.log
     ppu-batch --last drawn touched.log >sum
     sums 1 0 0 1 "$none"
-    rm -r drawn alone sum expected touched.log
+    mkdir 'a b' c
+    cp touched.log 'a b/x.log'
+    cp touched.log c/x.log
+    ppu-batch --last --paths drawn 'a b/x.log' ./c/x.log >sum
+    sums 2 0 0 2 "$none"
+    { [ -e 'drawn/a b_x/x-0004.png' ] && [ -e drawn/c_x/x-0004.png ]; } || fail "--paths: $(find drawn)"
+    rm -r drawn alone 'a b' c sum expected touched.log
 }
 
 # A share takes each Nth log, all shares together all logs; a run over the same folder then has nothing left to do.
@@ -412,6 +438,25 @@ from_the_tree() {
     done
 }
 
+# The commands of tools/README.md work as written, but for their folder, and print what it says they print.
+readme() {
+    local line commands=0 printed=0
+    mkdir readme
+    (
+        cd "$root"
+        grep -E '^    (tools/|cmp |find examples)' tools/README.md | sed "s| target/| $work/readme/|g" >"$work/commands"
+        bash -euo pipefail "$work/commands" >"$work/printed"
+    ) || fail "a command of tools/README.md failed"
+    commands=$(wc -l <commands)
+    while IFS= read -r line; do
+        grep -Fxq -- "${line#    }" printed || fail "tools/README.md: nothing printed $line"
+        printed=$((printed + 1))
+    done < <(grep -E '^    (R|W|RUN|logs|pictures|refused) ' "$root/tools/README.md")
+    { [ "$commands" -eq 8 ] && [ "$printed" -eq 13 ]; } || fail "tools/README.md: $commands commands and $printed lines they print"
+    passed 2
+    rm -r readme commands printed
+}
+
 # The installed commands beside each other.
 mkdir -p "$bin" "$work"
 OUT=$bin tools/build ppu-log
@@ -424,6 +469,7 @@ make_logs
 log_text
 log_round_trips
 log_errors
+log_interrupted
 from_the_tree ppu-log
 if [ -n "$with_pictures" ]; then
     for part in picture_captures picture_options picture_lines picture_runs picture_refusals picture_errors picture_full_disk \
@@ -433,7 +479,8 @@ if [ -n "$with_pictures" ]; then
     batch_interrupted TERM
     batch_interrupted KILL
     from_the_tree ppu-picture ppu-batch
-    echo "  ppu-batch: passing over, other options, shares, failures, interruptions"
+    readme
+    echo "  ppu-batch: passing over, other options, shares, failures, interruptions; the commands of tools/README.md"
 else
     echo "tests/tools.sh: no libpng here and none could be installed; ppu-picture and ppu-batch are skipped"
 fi
