@@ -189,6 +189,7 @@ picture_options() {
     local log=$root/examples/picture.log palette=$root/examples/2c02.pal
     ppu-picture "$log"
     [ "$(echo ./*.png)" = "./picture-0001.png ./picture-0002.png ./picture-0003.png ./picture-0004.png" ] || fail "not four pictures: $(echo ./*.png)"
+    [ "$(stat -c %a picture-0001.png)" = "$(printf '%o' $((0666 & ~$(umask))))" ] || fail "picture-0001.png has mode $(stat -c %a picture-0001.png)"
     pictures drawn "$log" picture-0003.png
     pictures drawn "$log" picture-0004.png
     ppu-picture --last -o last.png "$log"
@@ -460,8 +461,9 @@ readme() {
 # The installed commands beside each other.
 mkdir -p "$bin" "$work"
 OUT=$bin tools/build ppu-log
-with_pictures=
-if OUT=$bin tools/build ppu-picture 2>"$work/../errors"; then with_pictures=1; else cat "$work/../errors"; fi
+no_libpng=0
+OUT=$bin tools/build ppu-picture || no_libpng=$?
+[ "$no_libpng" -eq 0 ] || [ "$no_libpng" -eq 77 ] || fail "ppu-picture is not built"
 cp tools/ppu-batch "$bin"
 PATH=$bin:$PATH
 cd "$work"
@@ -471,7 +473,7 @@ log_round_trips
 log_errors
 log_interrupted
 from_the_tree ppu-log
-if [ -n "$with_pictures" ]; then
+if [ "$no_libpng" -eq 0 ]; then
     for part in picture_captures picture_options picture_lines picture_runs picture_refusals picture_errors picture_full_disk \
         batch_runs batch_shares batch_failures batch_errors; do
         $part
