@@ -124,6 +124,7 @@ static void catch_signals(void)
 static FILE *open_part(void)
 {
     catch_signals();
+    has_part = 1; /* before it is there, lest a signal falls between */
     int descriptor = open(whole.part, O_WRONLY | O_CREAT | O_TRUNC, 0666);
     has_part = descriptor >= 0;
     return has_part ? fdopen(descriptor, "wb") : NULL;
