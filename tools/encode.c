@@ -52,12 +52,22 @@ static void write_header(png_structp png, png_infop info, const Form *form)
     png_write_info(png, info);
 }
 
+static void stretch(uint8_t *to, const uint8_t *from, unsigned scale)
+{
+    for (int x = 0; x < PICTURE_WIDTH; x++)
+        for (unsigned i = 0; i < scale; i++)
+            *to++ = from[x];
+}
+
 static void write_rows(png_structp png, const uint8_t *picture, unsigned scale)
 {
-    static uint8_t row[PICTURE_WIDTH * 16];
+    static uint8_t stretched[PICTURE_WIDTH * MOST_SCALE];
     for (int y = 0; y < PICTURE_HEIGHT; y++) {
-        for (unsigned x = 0; x < PICTURE_WIDTH; x++)
-            memset(row + x * scale, picture[PICTURE_WIDTH * y + x], scale);
+        const uint8_t *row = picture + PICTURE_WIDTH * y;
+        if (scale > 1) {
+            stretch(stretched, row, scale);
+            row = stretched;
+        }
         for (unsigned i = 0; i < scale; i++)
             png_write_row(png, row);
     }

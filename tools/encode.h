@@ -8,9 +8,10 @@
 #define PICTURE_WIDTH 256
 #define PICTURE_HEIGHT 240
 #define COLOURS 64
+#define MOST_SCALE 16
 
 typedef struct {
-    unsigned scale;         /* each pixel becomes a square of scale x scale */
+    unsigned scale;         /* 1 to 16: each pixel becomes a square of scale x scale */
     const uint8_t *palette; /* 64 colours of red, green, blue: a pixel is one of them. NULL: a pixel is a grey level */
 } Form;
 

@@ -296,7 +296,7 @@ static void set_option(int option, const char *argument)
     switch (option) {
     case 'e': o->every = number_of("--every", argument, 1, 1000000000); break;
     case 'l': o->last = 1; break;
-    case 's': o->form.scale = (unsigned)number_of("--scale", argument, 1, 16); break;
+    case 's': o->form.scale = (unsigned)number_of("--scale", argument, 1, MOST_SCALE); break;
     case 'p': o->form.palette = load_palette(argument); break;
     case 'o': o->output = argument; break;
     case 'b': o->board = (uint8_t)number_of("--board", argument, 0, 255); break;
