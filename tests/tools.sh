@@ -458,6 +458,8 @@ readme() {
     rm -r readme commands printed
 }
 
+[ -x "$player" ] || fail "no $player: ./play builds it"
+
 # The installed commands beside each other.
 mkdir -p "$bin" "$work"
 OUT=$bin tools/build ppu-log
