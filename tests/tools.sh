@@ -445,7 +445,7 @@ readme() {
     mkdir readme
     (
         cd "$root"
-        grep -E '^    (tools/|cmp |find examples)' tools/README.md | sed "s| target/| $work/readme/|g" >"$work/commands"
+        grep -E '^    (tools/|cmp |find examples)' tools/README.md | sed "s| target/| ${work#"$root/"}/readme/|g" >"$work/commands"
         bash -euo pipefail "$work/commands" >"$work/printed"
     ) || fail "a command of tools/README.md failed"
     commands=$(wc -l <commands)
