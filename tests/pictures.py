@@ -1,0 +1,206 @@
+#!/usr/bin/env python3
+"""Pictures for tests/tools.sh, by nothing but Python: PNG files read back, and what they must show.
+
+pictures.py captures LOGS RAW          for each capture writes LOGS/NAME.log, a log from a fresh unit, whose start memory is filled through the
+                                       ports first, LOGS/NAME.board, the board byte for it, and RAW/NAME, its own log
+pictures.py same-numbers FOLDER        the PNGs of all these logs, in grey, show the captures' pixel numbers; prints how many pictures
+pictures.py drawn LOG PNG              the last picture of LOG in grey, scroll 0 and no access while drawing, shows what is worked out here
+pictures.py scaled N SMALL LARGE       LARGE is SMALL with each pixel N x N
+pictures.py coloured PAL LOG GREY PNG  PNG is the GREY picture through palette RAM, as LOG fills it at last, and the palette file
+pictures.py rows PNG RRGGBB:COUNT..    each row of PNG has one colour: so many rows of each, in this order
+"""
+import json
+import lzma
+from pathlib import Path
+import sys
+import zlib
+
+CAPTURES = Path(__file__).with_name("captures")
+WIDTH, HEIGHT = 256, 240
+
+
+def need(holds, text):
+    if not holds:
+        sys.exit("pictures.py: " + text)
+
+
+class Png:
+    """A PNG of 8 bits a pixel, grey or with a palette, rows without a filter or as differences from the row above."""
+
+    def __init__(self, path):
+        data = Path(path).read_bytes()
+        need(data[:8] == b"\x89PNG\r\n\x1a\n", f"{path}: no PNG")
+        chunks, at = {}, 8
+        while at < len(data):
+            length = int.from_bytes(data[at:at + 4], "big")
+            kind, body = data[at + 4:at + 8], data[at + 8:at + 8 + length]
+            need(zlib.crc32(kind + body) == int.from_bytes(data[at + 8 + length:at + 12 + length], "big"), f"{path}: a wrong checksum")
+            chunks[kind] = chunks.get(kind, b"") + body
+            at += 12 + length
+        need(b"IEND" in chunks and at == len(data), f"{path}: no end")
+        header = chunks[b"IHDR"]
+        self.width, self.height = int.from_bytes(header[:4], "big"), int.from_bytes(header[4:8], "big")
+        need(header[8] == 8 and header[9] in (0, 3) and header[12] == 0, f"{path}: not 8 bits of grey or palette")
+        self.palette = chunks.get(b"PLTE")
+        need((self.palette is not None) == (header[9] == 3), f"{path}: a palette and grey")
+        raw, step = zlib.decompress(chunks[b"IDAT"]), self.width + 1
+        need(len(raw) == step * self.height, f"{path}: {len(raw)} bytes")
+        self.rows, above = [], bytes(self.width)
+        for kind, row in ((raw[at], raw[at + 1:at + step]) for at in range(0, len(raw), step)):
+            need(kind in (0, 2), f"{path}: filter {kind}")
+            if kind == 2:
+                row = bytes((a + b) % 256 for a, b in zip(above, row)) if any(row) else above
+            self.rows.append(row)
+            above = row
+
+    def numbers(self):
+        """The pixel numbers that the grey levels stand for: black is 0, else 69 + 6n."""
+        need(self.palette is None, "not grey")
+        table = bytearray([255] * 256)
+        table[0] = 0
+        for number in range(1, 32):
+            table[69 + 6 * number] = number
+        numbers = b"".join(self.rows).translate(table)
+        need(255 not in numbers, "a grey level of no pixel number")
+        return numbers
+
+    def colours(self):
+        """Each pixel as three bytes."""
+        return [b"".join(self.palette[3 * pixel:3 * pixel + 3] for pixel in row) for row in self.rows]
+
+
+def write(port, *data):
+    return b"".join(bytes((1, 0x20, port, byte)) for byte in data)
+
+
+def run(lines):
+    return bytes((2, lines >> 8, lines & 255, 0))
+
+
+def fill(address, data):
+    return write(6, address >> 8, address & 255) + write(7, *data)
+
+
+def names():
+    return sorted(path.name.split(".")[0] for path in CAPTURES.glob("*.json"))
+
+
+def captures(logs, raw):
+    """The unit warms up, memory is filled, next line is 0 again: so a log runs one picture more than its capture did."""
+    for name in names():
+        about = json.loads((CAPTURES / f"{name}.json").read_text())
+        start = about["start"]
+        need(start["nametable"] == start["oam"] == "all FF", f"{name}: another start")
+        log = bytearray(lzma.decompress((CAPTURES / f"{name}.l01.xz").read_bytes()))
+        Path(raw, name).write_bytes(log)
+        for at in range(0, len(log), 4):
+            if log[at] == 0:
+                log[at + 3] = 0             # the byte that the emulator answered
+        memory = fill(0, (CAPTURES / f"{name}.chr").read_bytes()) + fill(0x3F00, bytes.fromhex(start["palette"]))
+        memory += fill(0x2000, b"\xFF" * 4096) + write(3, 0) + write(4, *b"\xFF" * 256)
+        Path(logs, f"{name}.log").write_bytes(run(262) + memory + bytes(log))
+        Path(logs, f"{name}.board").write_text(str(about["board"] | 8))
+
+
+def same_numbers(folder):
+    """Picture k + 2 of a log, counted from 1, is the capture's picture k; the emulator did not draw picture 0."""
+    compared, size = 0, WIDTH * HEIGHT
+    for name in names():
+        wanted = lzma.decompress((CAPTURES / f"{name}.num.xz").read_bytes())
+        need(len(wanted) > size and len(wanted) % size == 0, f"{name}: no pictures")
+        for k in range(1, len(wanted) // size):
+            path = Path(folder, f"{name}-{k + 2:04}.png")
+            need(Png(path).numbers() == wanted[k * size:(k + 1) * size], f"{path}: not the capture's picture")
+            compared += 1
+    print(compared)
+
+
+class Filled:
+    """What a log leaves in memory, by its writes alone, the unit taken as warmed up and the board as 9: vertical wiring, patterns writable."""
+
+    def __init__(self, path):
+        self.pattern, self.nametables, self.oam, self.palette = bytearray(8192), bytearray(2048), bytearray(256), bytearray(32)
+        self.control = self.mask = self.scroll = self.oamaddr = self.address = self.half = 0
+        log = Path(path).read_bytes()
+        for kind, high, low, byte in zip(log[::4], log[1::4], log[2::4], log[3::4]):
+            port = (256 * high + low) % 8
+            if kind == 1:
+                self.write(port, byte)
+            elif kind == 0 and port == 2:
+                self.half = 0
+
+    def write(self, port, byte):
+        if port == 0:
+            self.control = byte
+        elif port == 1:
+            self.mask = byte
+        elif port == 3:
+            self.oamaddr = byte
+        elif port == 4:
+            self.oam[self.oamaddr] = byte
+            self.oamaddr = (self.oamaddr + 1) % 256
+        elif port == 5:
+            self.scroll, self.half = self.scroll | byte, 1 - self.half
+        elif port == 6:
+            self.address = self.address % 256 + 256 * byte if self.half == 0 else self.address // 256 * 256 + byte
+            self.half = 1 - self.half
+        elif port == 7:
+            self.store(self.address % 16384, byte)
+            self.address += 1
+
+    def store(self, address, byte):
+        if address < 0x2000:
+            self.pattern[address] = byte
+        elif address < 0x3F00:
+            self.nametables[address % 2048] = byte
+        else:
+            self.palette[address % (16 if address % 4 == 0 else 32)] = byte % 64
+
+    def colour(self, table, tile, row, column):
+        at = 4096 * table + 16 * tile + row
+        return (self.pattern[at] >> 7 - column & 1) + 2 * (self.pattern[at + 8] >> 7 - column & 1)
+
+    def background(self, x, y):
+        attribute = self.nametables[960 + y // 32 * 8 + x // 32] >> y // 16 % 2 * 4 + x // 16 % 2 * 2 & 3
+        colour = self.colour(self.control >> 4 & 1, self.nametables[y // 8 * 32 + x // 8], y % 8, x % 8)
+        return 4 * attribute + colour if colour else 0
+
+    def picture(self):
+        """Scroll 0, sprites of 8 x 8 that are neither turned nor behind, everything shown."""
+        need(self.scroll == 0 and self.control & 0x27 == 0 and self.mask & 0x1E == 0x1E, "a log that this cannot draw")
+        rows = [bytearray(self.background(x, y) for x in range(WIDTH)) for y in range(HEIGHT)]
+        for y, tile, attribute, x in reversed(list(zip(*[iter(self.oam)] * 4))):
+            need(attribute < 4 or y >= 239, "a sprite that this cannot draw")
+            for row in range(min(8, max(0, 239 - y))):
+                for column in range(min(8, 256 - x)):
+                    colour = self.colour(self.control >> 3 & 1, tile, row, column)
+                    if colour:
+                        rows[y + 1 + row][x + column] = 16 + 4 * (attribute % 4) + colour
+        return b"".join(rows)
+
+
+def drawn(log, path):
+    need(Png(path).numbers() == Filled(log).picture(), f"{path}: not the picture worked out")
+
+
+def scaled(scale, small, large):
+    scale, small, large = int(scale), Png(small), Png(large)
+    need((large.width, large.height) == (scale * small.width, scale * small.height), "not so many times as large")
+    need(large.rows == [bytes(pixel for pixel in row for _ in range(scale)) for row in small.rows for _ in range(scale)], "other pixels")
+
+
+def coloured(palette_file, log, grey, path):
+    palette, ram, png = Path(palette_file).read_bytes(), Filled(log).palette, Png(path)
+    wanted = b"".join(palette[3 * ram[number]:3 * ram[number] + 3] for number in Png(grey).numbers())
+    need(b"".join(png.colours()) == wanted, f"{path}: other colours")
+    need(png.palette == palette, f"{path}: not the palette of {palette_file}")
+
+
+def rows(path, *wanted):
+    parts = [(bytes.fromhex(part.split(":")[0]), int(part.split(":")[1])) for part in wanted]
+    png = Png(path)
+    need(png.colours() == [colour * png.width for colour, count in parts for _ in range(count)], f"{path}: other rows")
+
+
+if __name__ == "__main__":
+    globals()[sys.argv[1].replace("-", "_")](*sys.argv[2:])

@@ -1,0 +1,492 @@
+#!/usr/bin/env bash
+# The commands of tools/ on the archive: pictures against the captures and against drawings of tests/pictures.py; ppu-log both ways; batches,
+# one that goes on after an interruption too; bad input to each: one line, a status, no file left behind.
+# PPU_ARCHIVE names another archive than target/staticlib/libppu.a. Without libpng only ppu-log is tested, and it says so.
+# shellcheck disable=SC2016 # a $ in quotes is the mark of a hexadecimal number here
+set -euo pipefail
+cd "$(dirname "$0")/.."
+root=$PWD
+ARCHIVE=$(realpath "${PPU_ARCHIVE:-target/staticlib/libppu.a}")
+export ARCHIVE
+player=$root/target/bin/player
+bin=$root/target/tests/tools/bin
+work=$root/target/tests/tools/work
+checks=0
+trap 'rm -rf "$root/target/tests/tools"' EXIT
+
+fail() {
+    echo "tests/tools.sh: $*" >&2
+    exit 1
+}
+
+passed() { checks=$((checks + ${1:-1})); }
+
+pictures() {
+    python3 "$root/tests/pictures.py" "$@" || fail "pictures.py $*"
+    passed
+}
+
+same() { # WHAT FILE FILE
+    cmp -s "$2" "$3" || fail "$1: $2 and $3 differ: $(head -c 300 "$2" | tr '\n' '/'), not $(head -c 300 "$3" | tr '\n' '/')"
+    passed
+}
+
+# A command that must end with this status, one line on standard error like the pattern, nothing on standard output, no file more or less.
+refuses() { # STATUS PATTERN COMMAND..
+    local status=$1 pattern=$2 got=0 before after lines
+    shift 2
+    before=$(find .)
+    "$@" >"$work/../said" 2>"$work/../errors" </dev/null || got=$?
+    after=$(find .)
+    mapfile -t lines <"$work/../errors"
+    [ "$got" -eq "$status" ] || fail "$*: status $got, not $status; it said: ${lines[*]}"
+    [ "${#lines[@]}" -eq 1 ] || fail "$*: not one line: ${lines[*]}"
+    [[ "${lines[0]}" =~ $pattern ]] || fail "$*: said: ${lines[0]}, not $pattern"
+    [ ! -s "$work/../said" ] || fail "$*: wrote to standard output"
+    [ "$before" = "$after" ] || fail "$*: left other files: $after"
+    passed
+}
+
+text() { printf '%s\n' "$@"; }
+
+# a log of these records
+log_of() { # FILE RECORD..
+    text "${@:2}" | ppu-log make -o "$1"
+}
+
+# LOGS
+
+log_text() {
+    text 'RUN 262' 'W 2006 21' 'W 2006 08' 'W 2007 42' 'W 2006 21' 'W 2006 08' 'R 2007' 'R 2007' 'R 2002' 'R 4000' >expected
+    ppu-log show "$root/examples/paper.log" >shown
+    same "the text of examples/paper.log" shown expected
+    ppu-log show - <"$root/examples/paper.log" -o shown
+    same "from standard input into a file" shown expected
+    text '# a comment' '' $'  run\t262 # warm up\r' 'w $2006 21' 'W 2006 8' 'W 2007 42' 'W 2006 21' 'W 2006 08' 'r 2007' 'R 2007' 'R 2002' 'R 4000' |
+        ppu-log make >made
+    same "a text with comments and blanks" made "$root/examples/paper.log"
+    text 'RAW 03 01 06 00' 'RAW 00 20 02 95' 'RAW 02 01 06 01' 'W FFFF FF' 'RUN 65535' 'R 0000' 'RUN 0' 'RAW 01 20' >expected
+    ppu-log make expected | ppu-log show >shown
+    same "records that are not well formed" shown expected
+    rm expected shown made
+}
+
+# Every byte string comes back; with answers, which are the player's words.
+round_trip() { # LOG
+    ppu-log show --answers "$1" >shown
+    ppu-log make shown -o back
+    same "there and back" back "$1"
+    sed -n 's/.*  # //p' shown >answers
+    "$player" <"$1" >played
+    same "the answers of $1" answers played
+    [ "$(wc -l <shown)" -eq $((($(stat -c %s "$1") + 3) / 4)) ] || fail "$1: not a line for each record"
+}
+
+log_round_trips() {
+    local log count=0
+    for log in "$root"/examples/*.log captured/*.log raw/*; do
+        round_trip "$log"
+        count=$((count + 1))
+    done
+    [ "$count" -gt 40 ] || fail "only $count logs"
+    rm shown back answers played
+    echo "  ppu-log: $count logs to text and back, the captures and random bytes among them; the answers are the player's"
+}
+
+# The captures as they are and as the player takes them; byte strings of every length to 12 and longer ones, kinds mostly known.
+make_logs() {
+    mkdir captured raw
+    pictures captures captured raw
+    python3 - <<'PYTHON'
+import random
+random.seed(2)
+for n in list(range(13)) + [random.randrange(4000) for _ in range(20)]:
+    data = bytearray(random.randbytes(n))
+    for at in range(0, n, 4):
+        data[at] = random.choice((0, 0, 1, 1, 1, 2, data[at]))
+        if at + 3 < n and data[at] != 1 and random.random() < 0.98:
+            data[at + 3] = 0
+        if at + 3 < n and data[at] != 2:
+            data[at + 1] = random.choice((0x20, 0x3F, data[at + 1]))
+        elif at + 3 < n:
+            data[at + 1] = random.choice((0, 1))
+    open(f"raw/{n}-{random.randrange(10**6)}", "wb").write(data)
+PYTHON
+}
+
+log_errors() {
+    refuses 2 'ppu-log: show or make' ppu-log
+    refuses 2 'ppu-log: draw: neither show nor make' ppu-log draw
+    refuses 2 'ppu-log: --colour: no such option' ppu-log show --colour
+    refuses 2 'ppu-log: -o: an argument is missing' ppu-log show -o
+    refuses 2 'ppu-log: --answers: only with show' ppu-log make --answers
+    refuses 2 'ppu-log: --board 4: not a board byte' ppu-log show --answers --board 4
+    refuses 2 'ppu-log: b: one file at a time' ppu-log show a b
+    refuses 3 'ppu-log: nowhere: No such file' ppu-log show nowhere
+    refuses 3 'ppu-log: captured: a folder' ppu-log make captured
+    refuses 3 'ppu-log: /dev/full: cannot be written: No space' ppu-log show "$root/examples/paper.log" -o /dev/full
+    refuses 3 'ppu-log: /proc/nowhere/text: No such file' ppu-log show "$root/examples/paper.log" -o /proc/nowhere/text
+    refuses 3 'ppu-log: raw/efp/text: Not a directory' ppu-log show "$root/examples/paper.log" -o raw/efp/text
+    local line
+    while IFS='|' read -r line said; do
+        text 'R 2002' '# a comment' "$line" >wrong.txt
+        refuses 4 "^wrong.txt:3: $said" ppu-log make wrong.txt -o made
+    done <<'LINES'
+X 2002|X: not a record
+R|R: takes an address
+R 2002 00|R: takes an address
+W 2006|W: takes an address and a byte
+W 2006 123|123: not a byte
+W 20060 12|20060: not an address
+R $|\$: not an address
+RUN 65536|65536: not a number of lines
+RUN 1F|1F: not a number of lines
+RUN|RUN: takes a number
+RAW|RAW: takes one to four
+RAW 1 2 3 4 5|RAW: takes one to four
+RAW 0x|0x: not a byte
+LINES
+    text 'RAW 01 20' '' 'R 2002' >wrong.txt
+    refuses 4 '^wrong.txt:3: R: a record behind one that is cut short' ppu-log make wrong.txt -o made
+    refuses 4 'paper.log:1: a zero byte' ppu-log make "$root/examples/paper.log" -o made
+    rm wrong.txt
+}
+
+# A command that a signal ends takes away what it had begun to write.
+log_interrupted() {
+    local shower status=0 wait
+    mkfifo slow.log
+    exec 4<>slow.log
+    ppu-log show slow.log -o shown 4>&- &
+    shower=$!
+    for wait in $(seq 200); do
+        [ ! -e "shown.$shower.part" ] || break
+        sleep 0.02
+    done
+    [ "$wait" -lt 200 ] || fail "no shown.$shower.part"
+    kill -s TERM "$shower"
+    wait "$shower" 2>/dev/null || status=$?
+    exec 4>&-
+    rm slow.log
+    { [ "$status" -eq 143 ] && [ "$(ls)" = "$(text captured raw)" ]; } || fail "ended by a signal: status $status, $(ls)"
+    passed
+}
+
+# PICTURES
+
+picture_captures() {
+    local log count
+    for log in captured/*.log; do
+        ppu-picture --strict --board "$(cat "${log%.log}.board")" -o drawn "$log"
+    done
+    count=$(pictures same-numbers drawn)
+    passed "$count"
+    rm -r drawn
+    echo "  ppu-picture: $count pictures of the captures, all 61,440 pixel numbers of each"
+}
+
+picture_options() {
+    local log=$root/examples/picture.log palette=$root/examples/2c02.pal
+    ppu-picture "$log"
+    [ "$(echo ./*.png)" = "./picture-0001.png ./picture-0002.png ./picture-0003.png ./picture-0004.png" ] || fail "not four pictures: $(echo ./*.png)"
+    [ "$(stat -c %a picture-0001.png)" = "$(printf '%o' $((0666 & ~$(umask))))" ] || fail "picture-0001.png has mode $(stat -c %a picture-0001.png)"
+    pictures drawn "$log" picture-0003.png
+    pictures drawn "$log" picture-0004.png
+    ppu-picture --last -o last.png "$log"
+    same "--last -o FILE.png" last.png picture-0004.png
+    ppu-picture --last --output=- - <"$log" >last.png
+    same "--last -o -" last.png picture-0004.png
+    ppu-picture --every 2 -o folder "$log"
+    [ "$(ls folder)" = "$(text picture-0002.png picture-0004.png)" ] || fail "--every 2: $(ls folder)"
+    same "--every 2" folder/picture-0002.png picture-0002.png
+    ppu-picture --last -o folder - <"$log"
+    same "the name of standard input" folder/picture-0004.png picture-0004.png
+    ppu-picture -o folder/some.png --every 3 "$log"
+    same "-o PATH.png" folder/some-0003.png picture-0003.png
+    for scale in 1 3 16; do
+        ppu-picture --scale "$scale" --last -o large.png "$log"
+        pictures scaled "$scale" picture-0004.png large.png
+    done
+    ppu-picture --palette "$palette" --last -o colour.png "$log"
+    pictures coloured "$palette" "$log" picture-0004.png colour.png
+    [ "$(ppu-picture --summary -o folder "$log")" = "pictures 4 of 4, records $(($(stat -c %s "$log") / 4)), refused 1:0 2:0 3:0 4:0 5:0" ] || fail "--summary"
+    rm -r folder ./*.png
+    echo "  ppu-picture: names, --last, --every, --scale, --palette, --summary, standard input and output"
+}
+
+# Palette RAM and greyscale count as they are when a line is drawn: 100 lines of colour $16, 40 of $2A, 100 of $2A AND $30.
+picture_lines() {
+    local colour=('W 2006 3F' 'W 2006 00') palette=$root/examples/2c02.pal
+    log_of rows.log 'RUN 262' "${colour[@]}" 'W 2007 16' 'RUN 100' "${colour[@]}" 'W 2007 2A' 'RUN 40' 'W 2001 01' 'RUN 100'
+    ppu-picture --palette "$palette" --last -o rows.png rows.log
+    rgb() { tail -c +$((3 * $1 + 1)) "$palette" | head -c 3 | od -An -tx1 | tr -d ' \n'; }
+    pictures rows rows.png "$(rgb 0x16):100" "$(rgb 0x2A):40" "$(rgb 0x20):100"
+    python3 "$root/tools/palette.py" made.pal
+    same "examples/2c02.pal and what makes it" made.pal "$palette"
+    rm rows.log rows.png made.pal
+}
+
+# A run goes on over line 241 with NMI on, and over many frames.
+picture_runs() {
+    log_of long.log 'RUN 262' 'W 2000 80' 'RUN 65535'
+    [ "$(ppu-picture --last --summary -o long.png long.log)" = "pictures 1 of 251, records 3, refused 1:0 2:0 3:0 4:0 5:0" ] || fail "a run of 65535 lines"
+    [ "$(ppu-log show --answers long.log | tail -n 1)" = "RUN 65535  # line 35 nmi 0" ] || fail "the answer of a run of 65535 lines"
+    passed 2
+    rm long.log long.png
+}
+
+# Refusals are said by record and number, and the play goes on, but not after a 5.
+picture_refusals() {
+    log_of refused.log 'RUN 262' 'R 1FFF' 'W 2001 08' 'R 2004' 'W 3FFF 12' 'R 200F' 'RUN 262' 'RAW 03 20 00 00' 'RUN 262'
+    local status=0
+    ppu-picture --summary -o refused refused.log >sum 2>errors || status=$?
+    text 'ppu-picture: refused.log: record 2: refused 1: address $1FFF is outside $2000-$3FFF' \
+        'ppu-picture: refused.log: record 4: refused 4: read of port 4 while drawing' \
+        'ppu-picture: refused.log: record 5: refused 4: write of port 7 while drawing' \
+        'ppu-picture: refused.log: record 6: refused 4: read of port 7 while drawing' \
+        'ppu-picture: refused.log: record 8: refused 5: unknown kind $03, not 0 read, 1 write or 2 run' >expected
+    same "the refusals" errors expected
+    text 'pictures 2 of 2, records 8, refused 1:1 2:0 3:0 4:3 5:1' >expected
+    same "their sum" sum expected
+    { [ "$status" -eq 4 ] && [ "$(find refused -name '*.png' | wc -l)" -eq 2 ]; } || fail "status $status, or not the two pictures before the 5"
+    log_of refused.log 'RUN 262' 'R 1FFF' 'RUN 1'
+    ppu-picture -o refused refused.log 2>errors || fail "status $? though not --strict"
+    status=0
+    ppu-picture --strict -o refused refused.log 2>errors || status=$?
+    { [ "$status" -eq 1 ] && [ "$(wc -l <errors)" -eq 1 ]; } || fail "--strict: status $status"
+    { text 'RUN 262' && printf 'R 4000\n%.0s' {1..5000}; } | ppu-log make -o refused.log
+    ppu-picture -o refused refused.log 2>errors
+    { [ "$(wc -l <errors)" -eq 11 ] && grep -q ': 5000 records refused in all: 5000 with 1, 0 with 2' errors; } || fail "many refusals: $(wc -l <errors) lines"
+    passed 4
+    rm -r refused refused.log sum errors expected
+    echo "  ppu-picture: refusals by record and number, what goes on and what ends, --strict"
+}
+
+picture_errors() {
+    local log=$root/examples/picture.log
+    : >empty.log
+    log_of short.log 'RUN 239' 'R 2002'
+    log_of cut.log 'RUN 100' 'RAW 02 01 06'
+    log_of nonzero.log 'RAW 00 20 02 01'
+    head -c 191 "$root/examples/2c02.pal" >short.pal
+    cat "$root/examples/2c02.pal" empty.log short.pal >long.pal
+    refuses 2 'ppu-picture: no log given' ppu-picture
+    refuses 2 'ppu-picture: b: one log at a time' ppu-picture a b
+    refuses 2 'ppu-picture: --colour: no such option' ppu-picture --colour "$log"
+    refuses 2 'ppu-picture: --scale: an argument is missing' ppu-picture "$log" --scale
+    for scale in 0 17 -1 1.5 x ''; do
+        refuses 2 "ppu-picture: --scale $scale: not a number from 1 to 16" ppu-picture --scale "$scale" "$log"
+    done
+    refuses 2 'ppu-picture: --every 0: not a number' ppu-picture --every 0 "$log"
+    refuses 2 'ppu-picture: --every and --last' ppu-picture --every 2 --last "$log"
+    refuses 2 'ppu-picture: --board 12: refused 3: ' ppu-picture --board 12 "$log"
+    refuses 2 'ppu-picture: --output -: only with --last' ppu-picture -o - "$log"
+    refuses 3 'ppu-picture: nowhere.log: No such file' ppu-picture nowhere.log
+    refuses 3 'ppu-picture: captured: a folder' ppu-picture captured
+    refuses 3 'ppu-picture: nowhere.pal: No such file' ppu-picture --palette nowhere.pal "$log"
+    refuses 3 'ppu-picture: short.pal: not a palette.*fewer than 192' ppu-picture --palette short.pal "$log"
+    refuses 3 'ppu-picture: long.pal: not a palette.*more than 192' ppu-picture --palette long.pal "$log"
+    refuses 3 'ppu-picture: empty.log/picture-0001.png: Not a directory' ppu-picture -o empty.log "$log"
+    refuses 3 'ppu-picture: /proc/nowhere: the folder cannot be made' ppu-picture -o /proc/nowhere "$log"
+    refuses 3 'ppu-picture: a/b: the folder cannot be made: No such file' ppu-picture -o a/b "$log"
+    ln -s /dev/full full.png
+    refuses 3 'ppu-picture: full.png: cannot be written: No space' ppu-picture --last -o full.png "$log"
+    refuses 4 'ppu-picture: cut.log: record 2: refused 5: record cut short, 3 of 4 bytes' ppu-picture cut.log
+    refuses 4 'ppu-picture: nonzero.log: record 1: refused 5: the last byte of a read is \$01, not 0' ppu-picture nonzero.log
+    refuses 5 'ppu-picture: empty.log: the log is empty' ppu-picture empty.log
+    refuses 5 'ppu-picture: short.log: no whole picture: the log ends before line 239' ppu-picture short.log
+    refuses 5 'ppu-picture: .*: no picture: it has 4 whole pictures, --every 5' ppu-picture --every 5 "$log"
+    rm empty.log short.log cut.log nonzero.log short.pal long.pal full.png
+}
+
+# A picture that cannot be written whole, by a limit as on a full disk: it is not there, nor a part of it.
+picture_full_disk() {
+    local status=0
+    (ulimit -f 8 && exec ppu-picture --scale 16 -o full captured/hit8.log 2>errors) || status=$?
+    { [ "$status" -eq 3 ] && grep -q ': cannot be written: File too large' errors; } || fail "a file that cannot grow: status $status, $(cat errors)"
+    [ -z "$(find full -name '*.part')" ] || fail "left $(ls full)"
+    passed
+    rm -r full errors
+}
+
+# BATCHES
+
+sums() { # DONE PASSED FAILED PICTURES REFUSALS
+    text "logs $(($1 + $2 + $3)): $1 done, $2 passed over, $3 failed" "pictures $4" "refused $5" >expected
+    same "the sums of a batch" sum expected
+}
+
+batch_runs() {
+    local none='0: 0 with 1, 0 with 2, 0 with 3, 0 with 4, 0 with 5' some='1: 1 with 1, 0 with 2, 0 with 3, 0 with 4, 0 with 5'
+    local logs=("$root/examples/paper.log" "$root/examples/picture.log")
+    ppu-batch drawn "${logs[@]}" >sum
+    sums 2 0 0 5 "$some"
+    ppu-picture -o alone "$root/examples/picture.log"
+    diff -r -x .ppu-batch alone drawn/picture || fail "a batch draws something else than ppu-picture"
+    text "${logs[@]}" | ppu-batch --list - drawn >sum
+    sums 0 2 0 5 "$some"
+    touch -d '1 hour' touched.log && cp "$root/examples/picture.log" touched.log
+    ppu-batch --last drawn "${logs[@]}" touched.log >sum
+    sums 3 0 0 3 "$some"
+    [ "$(ls drawn/picture)" = picture-0004.png ] || fail "pictures of other options are left: $(ls drawn/picture)"
+    rm drawn/picture/picture-0004.png
+    ppu-batch --last drawn "${logs[@]}" >sum
+    sums 1 1 0 2 "$some"
+    touch -d '1 hour' touched.log
+    ppu-batch --last drawn touched.log >sum
+    sums 1 0 0 1 "$none"
+    mkdir 'a b' c
+    cp touched.log 'a b/x.log'
+    cp touched.log c/x.log
+    ppu-batch --last --paths drawn 'a b/x.log' ./c/x.log >sum
+    sums 2 0 0 2 "$none"
+    { [ -e 'drawn/a b_x/x-0004.png' ] && [ -e drawn/c_x/x-0004.png ]; } || fail "--paths: $(find drawn)"
+    rm -r drawn alone 'a b' c sum expected touched.log
+}
+
+# A share takes each Nth log, all shares together all logs; a run over the same folder then has nothing left to do.
+batch_shares() {
+    local k
+    text captured/*.log >list
+    for k in 1 2 3; do
+        ppu-batch --every 20 --share "$k/3" --list list drawn >sum
+        grep -q '^logs 2: 2 done, 0 passed over, 0 failed' sum || fail "share $k of 3: $(cat sum)"
+        [ "$k" -gt 1 ] || [ "$(ls drawn)" = "$(sed -n '1p;4p' list | xargs -n 1 basename -s .log)" ] || fail "not logs 1 and 4 in share 1 of 3: $(ls drawn)"
+    done
+    ppu-batch --every 20 --list list drawn >sum
+    grep -q '^logs 6: 0 done, 6 passed over, 0 failed' sum || fail "all shares: $(cat sum)"
+    [ ! -e drawn/.part ] || fail "drawn/.part is left"
+    passed 5
+    rm -r drawn list sum
+}
+
+batch_failures() {
+    local status=0
+    log_of cut.log 'RUN 262' 'R 1FFF' 'RAW 02'
+    : >empty.log
+    ppu-batch drawn cut.log empty.log nowhere.log "$root/examples/picture.log" >sum 2>errors || status=$?
+    sums 1 0 3 5 '2: 1 with 1, 0 with 2, 0 with 3, 0 with 4, 1 with 5'
+    sort errors >sorted
+    text 'ppu-batch: cut.log: record 3: refused 5: record cut short, 1 of 4 bytes' 'ppu-batch: empty.log: the log is empty, no picture' \
+        'ppu-batch: nowhere.log: No such file or directory' >expected
+    same "what failed" sorted expected
+    { [ "$status" -eq 1 ] && [ "$(ls drawn)" = "$(text cut picture)" ] && [ "$(wc -l <drawn/cut/errors.txt)" -eq 2 ]; } || fail "status $status, $(ls drawn)"
+    ppu-batch drawn cut.log "$root/examples/picture.log" >sum 2>errors && fail "a log that fails was passed over"
+    sums 0 1 1 5 '2: 1 with 1, 0 with 2, 0 with 3, 0 with 4, 1 with 5'
+    mkdir -p drawn/paper/mine
+    ppu-batch drawn "$root/examples/paper.log" >sum 2>errors && fail "a folder that is not of ppu-batch was taken"
+    { [ -d drawn/paper/mine ] && grep -q '^ppu-batch: drawn/paper: cannot be put in place' errors; } || fail "another's folder: $(cat errors)"
+    passed 3
+    rm -r drawn cut.log empty.log sum errors sorted expected
+}
+
+# A log that never ends stands for a long one: the batch is killed when a picture is there, and does it again from the whole log.
+batch_interrupted() { # SIGNAL
+    local batch status=0 wait
+    mkfifo slow.log
+    exec 4<>slow.log
+    setsid ppu-batch drawn slow.log "$root/examples/picture.log" >sum 2>errors 4>&- &
+    batch=$!
+    cat captured/hit8.log >&4
+    for wait in $(seq 200); do
+        [ ! -e drawn/.part/slow/slow-0002.png ] || [ ! -e drawn/picture ] || break
+        sleep 0.05
+    done
+    [ "$wait" -lt 200 ] || fail "no picture of the log after 10 s"
+    kill -s "$1" -- "-$batch"
+    wait "$batch" 2>/dev/null || status=$?
+    exec 4>&-
+    { [ "$status" -ne 0 ] && [ ! -e drawn/slow ]; } || fail "interrupted by $1: status $status, $(ls drawn)"
+    if [ "$1" = TERM ]; then
+        { [ "$status" -eq 130 ] && grep -q '^ppu-batch: interrupted' errors; } || fail "interrupted: status $status, $(cat errors)"
+    fi
+    rm slow.log
+    cp captured/hit8.log slow.log
+    ppu-batch drawn slow.log "$root/examples/picture.log" >sum
+    sums 1 1 0 105 '0: 0 with 1, 0 with 2, 0 with 3, 0 with 4, 0 with 5'
+    ppu-picture -o alone slow.log
+    diff -r -x .ppu-batch alone drawn/slow || fail "other pictures after the interruption"
+    [ ! -e drawn/.part ] || fail "drawn/.part is left: $(find drawn/.part)"
+    passed 2
+    rm -r drawn alone slow.log sum errors expected
+}
+
+batch_errors() {
+    local log=$root/examples/picture.log
+    refuses 2 'ppu-batch: no OUTDIR given' ppu-batch
+    refuses 2 'ppu-batch: no logs given' ppu-batch drawn
+    refuses 2 'ppu-batch: --colour: no such option' ppu-batch --colour drawn "$log"
+    refuses 2 'ppu-batch: --scale: an argument is missing' ppu-batch drawn "$log" --scale
+    refuses 2 'ppu-batch: --scale 99: not a number' ppu-batch --scale=99 drawn "$log"
+    refuses 2 'ppu-batch: --jobs 0: not a number' ppu-batch -j 0 drawn "$log"
+    for share in 0/2 3/2 1 x/y; do
+        refuses 2 "ppu-batch: --share $share: not K/N" ppu-batch --share "$share" drawn "$log"
+    done
+    refuses 2 'picture.log and x/picture.txt would both go to drawn/picture; --paths' ppu-batch drawn "$log" x/picture.txt
+    refuses 3 'ppu-batch: nowhere: the list cannot be read' ppu-batch --list nowhere drawn
+    refuses 3 'ppu-batch: nowhere.pal: No such file' ppu-batch --palette nowhere.pal drawn "$log"
+    refuses 3 'ppu-batch: /proc/nowhere: the folder cannot be made' ppu-batch /proc/nowhere "$log"
+    refuses 3 'ppu-batch: captured/hit8.log: the folder cannot be made' ppu-batch captured/hit8.log "$log"
+}
+
+# In the source tree the commands build themselves; --help and --version of each.
+from_the_tree() {
+    local name
+    for name in "$@"; do
+        [ "$("$root/tools/$name" --help | head -c 12)" = "Usage: ppu-$(text "${name#ppu-}" | head -c 1)" ] || fail "tools/$name --help"
+        [ "$name" = ppu-batch ] || [ -n "$("$root/tools/$name" --version)" ] || fail "tools/$name --version"
+        passed
+    done
+}
+
+# The commands of tools/README.md work as written, but for their folder, and print what it says they print.
+readme() {
+    local line commands=0 printed=0
+    mkdir readme
+    (
+        cd "$root"
+        grep -E '^    (tools/|cmp |find examples)' tools/README.md | sed "s| target/| ${work#"$root/"}/readme/|g" >"$work/commands"
+        bash -euo pipefail "$work/commands" >"$work/printed"
+    ) || fail "a command of tools/README.md failed"
+    commands=$(wc -l <commands)
+    while IFS= read -r line; do
+        grep -Fxq -- "${line#    }" printed || fail "tools/README.md: nothing printed $line"
+        printed=$((printed + 1))
+    done < <(grep -E '^    (R|W|RUN|logs|pictures|refused) ' "$root/tools/README.md")
+    { [ "$commands" -eq 8 ] && [ "$printed" -eq 13 ]; } || fail "tools/README.md: $commands commands and $printed lines they print"
+    passed 2
+    rm -r readme commands printed
+}
+
+[ -x "$player" ] || fail "no $player: ./play builds it"
+
+# The installed commands beside each other.
+mkdir -p "$bin" "$work"
+OUT=$bin tools/build ppu-log
+no_libpng=0
+OUT=$bin tools/build ppu-picture || no_libpng=$?
+[ "$no_libpng" -eq 0 ] || [ "$no_libpng" -eq 77 ] || fail "ppu-picture is not built"
+cp tools/ppu-batch "$bin"
+PATH=$bin:$PATH
+cd "$work"
+make_logs
+log_text
+log_round_trips
+log_errors
+log_interrupted
+from_the_tree ppu-log
+if [ "$no_libpng" -eq 0 ]; then
+    for part in picture_captures picture_options picture_lines picture_runs picture_refusals picture_errors picture_full_disk \
+        batch_runs batch_shares batch_failures batch_errors; do
+        $part
+    done
+    batch_interrupted TERM
+    batch_interrupted KILL
+    from_the_tree ppu-picture ppu-batch
+    readme
+    echo "  ppu-batch: passing over, other options, shares, failures, interruptions; the commands of tools/README.md"
+else
+    echo "tests/tools.sh: no libpng here and none could be installed; ppu-picture and ppu-batch are skipped"
+fi
+[ "$checks" -gt 100 ] || fail "only $checks checks"
+echo "tests/tools.sh: $checks checks, all passed"

@@ -1,0 +1,54 @@
+/* A log of accesses and its play on a unit that owns its memory: what ppu-picture and ppu-log share. */
+#ifndef PLAY_H
+#define PLAY_H
+
+#include <stdio.h>
+#include "ppu.h"
+
+#define BAD_RECORD 5     /* refused: an unknown kind, a required zero byte not zero, a record cut short */
+#define REFUSALS 6       /* numbers 0 to 5 */
+#define PICTURE_LINES 240
+
+enum { READ, WRITE, RUN };
+
+/* four bytes: kind, high byte, low byte, last byte; fewer if the log ends inside it */
+typedef struct {
+    uint8_t bytes[4];
+    size_t length;
+    unsigned long number; /* counted from 1 */
+} Record;
+
+typedef struct Machine Machine;
+
+/* called after each of lines 0 to 239 that a record runs */
+typedef void Drawn(void *context, const Machine *machine, unsigned line);
+
+struct Machine {
+    uint8_t unit[PPU_RECORD_LENGTH], left[PPU_PATTERN_LENGTH], right[PPU_PATTERN_LENGTH], nametables[PPU_NAMETABLE_LENGTH],
+        oam[PPU_OAM_LENGTH], palette[PPU_PALETTE_LENGTH], line[PPU_LINE_LENGTH];
+    Drawn *drawn; /* NULL: nobody looks */
+    void *context;
+};
+
+/* A fresh unit of this board, all memory zero; the answer's number. */
+unsigned start(Machine *machine, uint8_t board);
+
+/* The record after the last; 0 at the end of the log. A record that was never read is { .number = 0 }. */
+int next_record(FILE *log, Record *record);
+
+/* The two bytes in the middle: an address, or a number of lines. */
+unsigned middle(const Record *record);
+
+/* Whole, of a known kind, the last byte of a read and of a run 0. */
+int well_formed(const Record *record);
+
+/* Plays a record as the player does: a run goes on over line 241. The answer of a record that is not well formed is BAD_RECORD. */
+uint64_t play(Machine *machine, const Record *record);
+
+/* The line that comes next. */
+unsigned next_line(const Machine *machine);
+
+/* Says in words why a record was refused with this number. */
+void explain(char *text, size_t size, const Record *record, unsigned number);
+
+#endif
