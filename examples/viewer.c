@@ -205,25 +205,35 @@ static void play_on(Viewer *v)
         v->playing = v->until = 0;
 }
 
-/* Waits for a key, or for the time at which the next picture is due. A viewer that has been held up does not hurry to catch up. */
+/* What has happened to the window: 0 if that ends the viewer. `changed` is set if the screen is to be shown anew. */
+static int happened(Viewer *v, int *changed)
+{
+    SDL_Event event;
+    while (SDL_PollEvent(&event)) {
+        if (event.type == SDL_QUIT || (event.type == SDL_KEYDOWN && !press(v, event.key.keysym.sym)))
+            return 0;
+        *changed |= event.type == SDL_KEYDOWN || event.type == SDL_WINDOWEVENT;
+    }
+    return 1;
+}
+
+/* Looks for keys every few milliseconds and plays each picture when it is due; having been held up, it does not hurry to catch up.
+   It does not wait by SDL_WaitEvent: with SDL 2.26 on X11 a key that closes the window can then end in an X error, BadWindow. */
 static void watch(Viewer *v)
 {
     Uint64 second = SDL_GetPerformanceFrequency(), due = SDL_GetPerformanceCounter();
-    for (;;) {
-        SDL_Event event;
+    int changed = 1;
+    while (happened(v, &changed)) {
         Uint64 now = SDL_GetPerformanceCounter();
-        int wait = now < due ? (int)((due - now) * 1000 / second) + 1 : 0;
-        int got = v->playing ? SDL_WaitEventTimeout(&event, wait) : SDL_WaitEvent(&event);
-        if (got && (event.type == SDL_QUIT || (event.type == SDL_KEYDOWN && !press(v, event.key.keysym.sym))))
-            return;
-        now = SDL_GetPerformanceCounter();
-        int played = v->playing && now >= due;
-        if (played) {
+        if (v->playing && now >= due) {
             play_on(v);
             due = (due + second / 10 < now ? now : due) + second / PICTURES_A_SECOND;
+            changed = 1;
         }
-        if (played || (got && (event.type == SDL_KEYDOWN || event.type == SDL_WINDOWEVENT)))
+        if (changed)
             show(v);
+        changed = 0;
+        SDL_Delay(v->playing ? 2 : 10);
     }
 }
 
@@ -240,7 +250,6 @@ int main(int argc, char **argv)
     v.playing = !o.paused;
     v.until = o.until;
     open_window(&v, o.scale);
-    show(&v);
     watch(&v);
     SDL_FreeSurface(v.canvas);
     SDL_DestroyWindow(v.window);

@@ -133,7 +133,7 @@ test_bad_words() {
 
 start_server() {
     mkdir "$out/screen"
-    Xvfb -displayfd 5 -screen 0 1100x600x24 -fbdir "$out/screen" 5>"$out/display" 2>"$out/server" &
+    Xvfb -noreset -displayfd 5 -screen 0 1100x600x24 -fbdir "$out/screen" 5>"$out/display" 2>"$out/server" &
     server=$!
     for _ in $(seq 100); do
         [ ! -s "$out/display" ] || break
@@ -148,7 +148,11 @@ start_server() {
 start() {
     (cd "$out" && exec "$out/viewer-$1" "${@:2}") 2>"$out/errors" &
     viewer=$!
-    window=$(timeout 20 xdotool search --sync --onlyvisible --name '\.log: ' | head -n 1)
+    window=
+    while kill -0 "$viewer" 2>/dev/null; do
+        window=$(xdotool search --onlyvisible --name '\.log: ' 2>/dev/null) && break
+        sleep 0.05
+    done
     [ -n "$window" ] || fail "no window of viewer ${*:2}: $(cat "$out/errors")"
 }
 
@@ -247,18 +251,18 @@ test_time() {
     start "${compilers[0]}" --until-picture 60 "$out/long.log"
     title "long.log: picture 60, paused before line 240"
     after=$(date +%s%N)
-    [ $((after - before)) -ge 950000000 ] || fail "60 pictures in $(((after - before) / 1000000)) ms"
+    local took=$(((after - before) / 1000000))
+    if [ "$took" -lt 950 ] || [ "$took" -gt 4000 ]; then fail "60 pictures in $took ms"; fi
     keys space
-    title "long.log: picture 60, playing"
+    title "long.log: picture *, playing"
     keys space
-    sleep 0.1
+    title "long.log: picture *, paused before line 240"
     local name
     name=$(xdotool getwindowname "$window")
-    [[ "$name" == "long.log: picture "*", paused before line 240" ]] || fail "the space bar does not pause: $name"
     sleep 0.2
     title "$name"
     quit Escape
-    say "60 pictures in $(((after - before) / 1000000)) ms, with the start; the space bar plays and pauses"
+    say "60 pictures in $took ms, with the start; the space bar plays and pauses"
 }
 
 # What the panel says of a log's last record is what the player prints of it: the line that it prints for that record, or none for a write.

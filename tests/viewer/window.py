@@ -12,6 +12,7 @@
 X11 is FILE,X,Y,WIDTH,HEIGHT: the X server's frame buffer (an XWD file, which Xvfb -fbdir keeps) and the window's place in it. The screen is
 what the window shows, at its own size: each of its pixels must stand there as a square, in the middle of the window.
 """
+import array
 import random
 import runpy
 import struct
@@ -66,7 +67,7 @@ def logs(folder):
         Path(folder, f"panel-{records}.log").write_bytes(paper[:4 * records])
     for name, record in (("kind", "03200200"), ("last", "00200201"), ("cut", "012007"), ("run-last", "02000101"), ("no-line", "02000000")):
         Path(folder, f"panel-{name}.log").write_bytes(paper + bytes.fromhex(record))
-    for seed in range(4):
+    for seed in range(2):
         Path(folder, f"panel-random-{seed}.log").write_bytes(scattered(random.Random(seed)))
     Path(folder, "palette").write_bytes(b"".join(bytes((4 * i, 255 - 4 * i, 37 * i % 256)) for i in range(64)))
 
@@ -80,6 +81,14 @@ def minimal():
             there = (y + 2) // 8 == 1 and tile in (1, 3, 5)
             row += " .+#"[max(0, min(3, 5 - (abs(2 * across - 7) + abs(2 * down - 7)) // 2)) if there else 0]
         print(row)
+
+
+def rgb(row, step):
+    """A row of pixels of so many bytes each, blue first, as three bytes a pixel, red first."""
+    turned = bytearray(len(row) // step * 3)
+    for colour in range(3):
+        turned[colour::3] = row[2 - colour::step]
+    return bytes(turned)
 
 
 def window(place):
@@ -97,14 +106,14 @@ def window(place):
     for y in range(scale * HEIGHT):
         at = start + (top + y) * pitch + 4 * left
         row = data[at:at + 4 * scale * WIDTH]
-        if y % scale:
-            if row != before:
-                fail(f"row {y} of the window differs from the row above it")
-            continue
-        before, pixels = row, [row[i:i + 3][::-1] for i in range(0, len(row), 4)]
-        if any(pixels[i] != pixels[i // scale * scale] for i in range(len(pixels))):
-            fail(f"row {y} of the window is not made of squares")
-        rows.append(b"".join(pixels[::scale]))
+        if y % scale and row != before:
+            fail(f"row {y} of the window differs from the row above it")
+        if y % scale == 0:
+            pixels = array.array("I", row)
+            if any(pixels[i::scale] != pixels[::scale] for i in range(scale)):
+                fail(f"row {y} of the window is not made of squares")
+            before = row
+            rows.append(rgb(pixels[::scale].tobytes(), 4))
     return rows
 
 
@@ -115,7 +124,7 @@ def bmp(file):
     width, height, _, bits = struct.unpack("<iiHH", data[18:30])
     step, pitch = bits // 8, (width * bits + 31) // 32 * 4
     rows = [data[start + y * pitch:start + y * pitch + width * step] for y in range(height)]
-    return [b"".join(row[i:i + 3][::-1] for i in range(0, len(row), step)) for row in reversed(rows)]
+    return [rgb(row, step) for row in reversed(rows)]
 
 
 def chunk(name, data):
@@ -173,8 +182,8 @@ def picture(place, palette, drawn, grey):
     colours, (pixels, cells) = Path(palette).read_bytes(), numbers()
     wanted = []
     for y, line in enumerate(pixels):
-        rgb = b"".join(colours[3 * c:3 * c + 3] for c in (cells[n] & (0x30 if grey else 0x3F) for n in line))
-        wanted.append(rgb if y < drawn else bytes(level // 2 for level in rgb))
+        row = b"".join(colours[3 * c:3 * c + 3] for c in (cells[n] & (0x30 if grey else 0x3F) for n in line))
+        wanted.append(row if y < drawn else bytes(level // 2 for level in row))
     got = [row[3 * MARGIN:3 * (MARGIN + 256)] for row in window(place)[MARGIN:MARGIN + 240]]
     same(got, wanted, "the picture")
 
