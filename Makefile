@@ -21,7 +21,7 @@ CFLAGS = -O2
 crates := $(shell find crates crates.txt)
 prefix := $(abspath $(PREFIX))
 to = $(DESTDIR)$(prefix)
-tools = $(if $(wildcard tools/Makefile),target/tools/ppu-picture target/tools/ppu-log tools/ppu-batch)
+tools = $(if $(wildcard tools/build),target/tools/ppu-picture target/tools/ppu-log tools/ppu-batch)
 installed = $(to)/include/ppu.h $(to)/lib/libppu.a $(to)/lib/pkgconfig/ppu.pc $(to)/bin/ppu-player $(addprefix $(to)/bin/,$(notdir $(tools)))
 sdl = $(shell pkg-config --exists sdl2 2>/dev/null && echo sdl2)
 
@@ -40,7 +40,7 @@ target/bin/player: $(crates)
 	./play </dev/null
 
 tools: $(ARCHIVE)
-	$(if $(tools),$(MAKE) -f tools/Makefile ARCHIVE=$(abspath $(ARCHIVE)))
+	$(if $(tools),ARCHIVE=$(abspath $(ARCHIVE)) tools/build)
 
 install: all tools
 	install -d $(to)/include $(to)/lib/pkgconfig $(to)/bin

@@ -57,7 +57,7 @@ make_as_user() { make --no-print-directory -s "$@" ARCHIVE="$archive" PLAYER="$p
 test_install() {
     make_as_user install PREFIX="$prefix"
     local name names=(include/ppu.h lib/libppu.a lib/pkgconfig/ppu.pc bin/ppu-player)
-    [ ! -f tools/Makefile ] || names+=(bin/ppu-picture bin/ppu-log bin/ppu-batch)
+    [ ! -e tools/build ] || names+=(bin/ppu-picture bin/ppu-log bin/ppu-batch)
     [ "$(cd "$prefix" && find . -type f | sort)" = "$(printf './%s\n' "${names[@]}" | sort)" ] || fail "make install has put $(find "$prefix" -type f)"
     cmp include/ppu.h "$prefix/include/ppu.h"
     cmp "$archive" "$prefix/lib/libppu.a"
