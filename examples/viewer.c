@@ -125,6 +125,9 @@ static void open_window(Viewer *v, int scale)
 {
     if (SDL_Init(SDL_INIT_VIDEO) != 0)
         fail("no window", SDL_GetError());
+    /* without a display some versions of SDL draw into memory that no one sees */
+    if (!SDL_getenv("SDL_VIDEODRIVER") && strcmp(SDL_GetCurrentVideoDriver(), "offscreen") == 0)
+        fail("no window", "there is no display");
     v->window = SDL_CreateWindow(v->name, SDL_WINDOWPOS_UNDEFINED, SDL_WINDOWPOS_UNDEFINED, scale * SCREEN_WIDTH, scale * SCREEN_HEIGHT,
                                  SDL_WINDOW_RESIZABLE);
     v->canvas = SDL_CreateRGBSurfaceFrom(v->screen.pixels, SCREEN_WIDTH, SCREEN_HEIGHT, 32, sizeof v->screen.pixels[0], 0xFF0000, 0xFF00, 0xFF, 0);

@@ -126,6 +126,7 @@ test_bad_words() {
     refuses "--until-picture: a number" --until-picture 0 "$log"
     refuses "--fast: unknown" --fast "$log"
     refuses "again.log: unknown" "$log" again.log
+    DISPLAY='' WAYLAND_DISPLAY='' XDG_RUNTIME_DIR=$out refuses "no window" "$log"
     DISPLAY='' SDL_VIDEODRIVER=x11 refuses "no window" "$log"
     DISPLAY=:93941 SDL_VIDEODRIVER=x11 refuses "no window" "$log"
     say "the viewer refuses $refused bad command lines with status 2 and one line"
