@@ -13,6 +13,7 @@ out=$(mktemp -d)
 prefix=$out/prefix
 server=
 viewer=
+skipped=
 
 # The process with this id, which this script started.
 end_of() {
@@ -32,6 +33,11 @@ fail() {
 }
 
 say() { echo "tests/examples.sh: $*"; }
+
+skip() {
+    skipped=yes
+    say "skipped: $*"
+}
 
 look() { python3 "$stored/window.py" "$@"; }
 
@@ -86,7 +92,7 @@ test_minimal() {
     [ "$(pkg-config --modversion ppu)" = "$(sed -n 's/^VERSION = //p' Makefile)" ] || fail "pkg-config --modversion ppu"
     [ "$(wc -l <examples/minimal.c)" -lt 60 ] || fail "examples/minimal.c is no longer short"
     local under=() compiler
-    if valgrind --quiet true 2>/dev/null; then under=(valgrind --quiet --error-exitcode=9); else say "minimal without valgrind, which is not here"; fi
+    if valgrind --quiet true 2>/dev/null; then under=(valgrind --quiet --error-exitcode=9); else skip "valgrind on minimal, which is not here"; fi
     look minimal >"$out/wanted"
     for compiler in "${compilers[@]}"; do
         compile "$compiler" "$compiler" minimal ppu
@@ -308,7 +314,7 @@ test_viewer() {
     look logs "$out"
     test_bad_words
     if ! has Xvfb || ! has xdotool; then
-        say "skipped: the viewer's window, for want of Xvfb or xdotool"
+        skip "the viewer's window, for want of Xvfb or xdotool"
         return
     fi
     start_server
@@ -333,13 +339,13 @@ export PKG_CONFIG_PATH=$prefix/lib/pkgconfig ASAN_OPTIONS=detect_leaks=0 # SDL k
 if has pkg-config; then
     test_minimal
 else
-    say "skipped: the examples, for want of pkg-config"
+    skip "the examples, for want of pkg-config"
 fi
 if has pkg-config && pkg-config --exists sdl2; then
     test_viewer
 else
-    say "skipped: the viewer, for want of SDL2"
+    skip "the viewer, for want of SDL2"
 fi
 make_as_user uninstall PREFIX="$prefix"
 [ -z "$(find "$prefix" -type f)" ] || fail "make uninstall leaves $(find "$prefix" -type f)"
-say "all passed"
+say "all passed${skipped:+, but for what was skipped}"

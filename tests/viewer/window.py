@@ -52,8 +52,8 @@ def scattered(chance):
 
 
 def logs(folder):
-    """The example's log, checked; the same in greys; the same with 1200 pictures more; for the panel the document's log cut after each record
-    and with a bad record more, and random accesses and runs."""
+    """The example's log, checked; the same in greys; the same with 1200 pictures more; for the panel the document's log cut short
+    and with more records, bad ones too, and random accesses and runs."""
     log = bytes(example()["log"])
     if log != (ROOT / "examples/picture.log").read_bytes():
         fail("examples/picture.log is not what examples/picture.py writes")
@@ -63,10 +63,13 @@ def logs(folder):
     Path(folder, "grey.log").write_bytes(log.replace(mask, mask[:3] + b"\x1F"))
     Path(folder, "long.log").write_bytes(log + bytes((2, 1, 6, 0)) * 1200)
     paper = (ROOT / "examples/paper.log").read_bytes()
-    for records in range(1, len(paper) // 4 + 1):
-        Path(folder, f"panel-{records}.log").write_bytes(paper[:4 * records])
-    for name, record in (("kind", "03200200"), ("last", "00200201"), ("cut", "012007"), ("run-last", "02000101"), ("no-line", "02000000")):
-        Path(folder, f"panel-{name}.log").write_bytes(paper + bytes.fromhex(record))
+    for end in range(4, len(paper) + 1, 4):
+        if paper[end - 4] != 1 or paper[end:end + 1] != b"\x01":      # of writes in a row the last is enough
+            Path(folder, f"panel-{end // 4}.log").write_bytes(paper[:end])
+    more = {"kind": "03200200", "last": "00200201", "cut": "012007", "run-last": "02000101", "no-line": "02000000", "blank": "0200F200",
+            "nmi": "01200080 0200F200"}
+    for name, records in more.items():
+        Path(folder, f"panel-{name}.log").write_bytes(paper + bytes.fromhex(records))
     for seed in range(2):
         Path(folder, f"panel-random-{seed}.log").write_bytes(scattered(random.Random(seed)))
     Path(folder, "palette").write_bytes(b"".join(bytes((4 * i, 255 - 4 * i, 37 * i % 256)) for i in range(64)))
