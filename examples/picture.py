@@ -12,6 +12,8 @@ FONT = {
     "S": "3C 66 60 3C 06 66 3C 00", "0": "3C 66 6E 76 66 66 3C 00", "2": "3C 66 06 0C 18 30 7E 00", " ": "00 00 00 00 00 00 00 00",
 }
 BALL = "3C 7E FF FF FF FF 7E 3C"
+SHINE = "00 18 3C 3C 00 00 00 00"
+PALETTE = "0F 30 16 27 0F 2A 1A 0A 0F 21 11 01 0F 28 18 08 0F 16 27 30 0F 12 21 31 0F 2A 1A 3A 0F 24 14 34"
 TEXT = "BLOOMCHISEL 2C02"
 
 log = bytearray()
@@ -46,8 +48,8 @@ letters = sorted(set(TEXT))
 tiles = {letter: 1 + index for index, letter in enumerate(letters)}
 for letter, tile in tiles.items():
     fill(16 * tile, bytes.fromhex(FONT[letter]) + bytes(8))
-fill(16 * 32, bytes.fromhex(BALL) + bytes.fromhex("00 18 3C 3C 00 00 00 00"))
-fill(0x3F00, bytes.fromhex("0F 30 16 27 0F 2A 1A 0A 0F 21 11 01 0F 28 18 08 0F 16 27 30 0F 12 21 31 0F 2A 1A 3A 0F 24 14 34"))
+fill(16 * 32, bytes.fromhex(BALL + SHINE))
+fill(0x3F00, bytes.fromhex(PALETTE))
 fill(0x2000, bytes(960))
 fill(0x2000 + 32 * 12 + 8, bytes(tiles[letter] for letter in TEXT))
 fill(0x23C0, bytes((0x00, 0x55, 0xAA, 0xFF) * 16))

@@ -1,0 +1,351 @@
+#!/usr/bin/env bash
+# What a C programmer meets first: `make install` into a folder, the examples compiled against it by pkg-config, the installed player, and
+# the viewer's window on an X server without a screen (Xvfb), looked at pixel by pixel and driven by keys.
+# tests/examples.sh --store stores the pictures of tests/viewer anew instead of comparing with them: look at them afterwards.
+# It takes the archive that PPU_ARCHIVE names, else target/staticlib/libppu.a, and the player target/bin/player.
+set -euo pipefail
+cd "$(dirname "$0")/.."
+root=$PWD
+stored=$root/tests/viewer
+job=same
+[ "${1:-}" != --store ] || job=store
+out=$(mktemp -d)
+prefix=$out/prefix
+server=
+viewer=
+skipped=
+
+# The process with this id, which this script started.
+end_of() {
+    [ -z "$1" ] || { kill "$1" && wait "$1"; } 2>/dev/null || true
+}
+
+clean_up() {
+    end_of "$viewer"
+    end_of "$server"
+    rm -rf "$out"
+}
+trap clean_up EXIT
+
+fail() {
+    echo "tests/examples.sh: $*" >&2
+    exit 1
+}
+
+say() { echo "tests/examples.sh: $*"; }
+
+skip() {
+    skipped=yes
+    say "skipped: $*"
+}
+
+look() { python3 "$stored/window.py" "$@"; }
+
+has() { command -v "$1" >/dev/null; }
+
+# What is missing is installed where that can be done; what is still missing afterwards is skipped, with a word.
+install_missing() {
+    local missing=()
+    has pkg-config || missing+=(pkg-config)
+    pkg-config --exists sdl2 2>/dev/null || missing+=(libsdl2-dev)
+    has Xvfb || missing+=(xvfb)
+    has xdotool || missing+=(xdotool)
+    [ ${#missing[@]} -gt 0 ] && [ "$(id -u)" = 0 ] && has apt-get || return 0
+    local get=(timeout 300 apt-get -o DPkg::Lock::Timeout=200 install -y --no-install-recommends "${missing[@]}")
+    "${get[@]}" >"$out/apt-get" 2>&1 || { timeout 300 apt-get update && "${get[@]}"; } >>"$out/apt-get" 2>&1 ||
+        { tail -n 3 "$out/apt-get"; return 0; }
+    say "installed ${missing[*]}"
+}
+
+# The Makefile: what is installed where, and that nothing of it stays.
+make_as_user() { make --no-print-directory -s "$@" ARCHIVE="$archive" PLAYER="$player"; }
+
+test_install() {
+    make_as_user install PREFIX="$prefix"
+    local name names=(include/ppu.h lib/libppu.a lib/pkgconfig/ppu.pc bin/ppu-player)
+    [ ! -e tools/build ] || names+=(bin/ppu-picture bin/ppu-log bin/ppu-batch)
+    [ "$(cd "$prefix" && find . -type f | sort)" = "$(printf './%s\n' "${names[@]}" | sort)" ] || fail "make install has put $(find "$prefix" -type f)"
+    cmp include/ppu.h "$prefix/include/ppu.h"
+    cmp "$archive" "$prefix/lib/libppu.a"
+    "$prefix/bin/ppu-player" <examples/paper.log >"$out/printed"
+    "$player" <examples/paper.log | cmp - "$out/printed" || fail "the installed player"
+    [ -s "$out/printed" ] || fail "the installed player has printed nothing"
+    make_as_user install PREFIX=/usr DESTDIR="$out/package"
+    grep -qx 'prefix=/usr' "$out/package/usr/lib/pkgconfig/ppu.pc" || fail "ppu.pc under DESTDIR does not say PREFIX"
+    make_as_user uninstall PREFIX=/usr DESTDIR="$out/package"
+    [ -z "$(find "$out/package" -type f)" ] || fail "make uninstall leaves $(find "$out/package" -type f)"
+    if make_as_user install PREFIX="$out/a b" 2>"$out/errors"; then fail "make install into a folder with a space in its name"; fi
+    say "make install, uninstall and DESTDIR; the installed player plays examples/paper.log in $(wc -l <"$out/printed") lines"
+}
+
+# Compiles an example as a newcomer would, but with every warning: compile NAME COMPILER EXAMPLE PACKAGES [OPTION..]
+compile() {
+    local name=$1 compiler=$2 example=$3 packages=$4
+    # the flags and the packages are words
+    # shellcheck disable=SC2046,SC2086
+    "$compiler" -std=c99 -pedantic -Wall -Wextra -Werror "${@:5}" "examples/$example.c" $(pkg-config --cflags --libs $packages) -o "$out/$example-$name" ||
+        fail "$compiler on examples/$example.c"
+}
+
+test_minimal() {
+    [ "$(pkg-config --cflags --libs ppu | xargs)" = "-I$prefix/include -L$prefix/lib -lppu" ] || fail "pkg-config ppu: $(pkg-config --cflags --libs ppu)"
+    [ "$(pkg-config --modversion ppu)" = "$(sed -n 's/^VERSION = //p' Makefile)" ] || fail "pkg-config --modversion ppu"
+    [ "$(wc -l <examples/minimal.c)" -lt 60 ] || fail "examples/minimal.c is no longer short"
+    local under=() compiler
+    if valgrind --quiet true 2>/dev/null; then under=(valgrind --quiet --error-exitcode=9); else skip "valgrind on minimal, which is not here"; fi
+    look minimal >"$out/wanted"
+    for compiler in "${compilers[@]}"; do
+        compile "$compiler" "$compiler" minimal ppu
+        "${under[@]}" "$out/minimal-$compiler" >"$out/printed" || fail "minimal by $compiler"
+        cmp "$out/printed" "$out/wanted" || fail "minimal by $compiler prints something else than the reckoning of tests/viewer/window.py"
+    done
+    say "examples/minimal.c by ${compilers[*]} prints the $(wc -l <"$out/wanted") rows that are reckoned${under[0]:+, under valgrind}"
+}
+
+# refuses TEXT WORD..: the viewer with these words ends with status 2 and one line, which has the text in it
+refuses() {
+    local status=0
+    timeout 20 "$out/viewer-${compilers[0]}" "${@:2}" >"$out/printed" 2>"$out/errors" || status=$?
+    if [ "$status" != 2 ] || [ -s "$out/printed" ] || [ "$(wc -l <"$out/errors")" != 1 ] || [[ "$(<"$out/errors")" != "viewer: "*"$1"* ]]; then
+        fail "viewer ${*:2}: status $status, $(cat "$out/errors")"
+    fi
+    refused=$((refused + 1))
+}
+
+test_bad_words() {
+    local refused=0 log=examples/paper.log
+    head -c 191 "$out/palette" >"$out/short"
+    cat "$out/palette" "$out/palette" >"$out/double"
+    refuses "no log"
+    refuses "$out/none: No such file" "$out/none"
+    refuses "$out: Is a directory" "$out"
+    refuses "$out/none: No such file" --palette "$out/none" "$log"
+    refuses "$out/short: 191 bytes; a palette has 192" --palette "$out/short" "$log"
+    refuses "$out/double: 384 bytes; a palette has 192" --palette "$out/double" "$log"
+    refuses "/dev/null: 0 bytes; a palette has 192" --palette /dev/null "$log"
+    refuses "--palette: a file is wanted" "$log" --palette
+    local scale
+    for scale in 0 17 -1 2x 99999999999999999999 ""; do
+        refuses "--scale: a number from 1 to 16" --scale "$scale" "$log"
+    done
+    refuses "--until-picture: a number" "$log" --until-picture
+    refuses "--until-picture: a number" --until-picture 0 "$log"
+    refuses "--fast: unknown" --fast "$log"
+    refuses "again.log: unknown" "$log" again.log
+    DISPLAY='' WAYLAND_DISPLAY='' XDG_RUNTIME_DIR=$out refuses "no window" "$log"
+    DISPLAY='' SDL_VIDEODRIVER=x11 refuses "no window" "$log"
+    DISPLAY=:93941 SDL_VIDEODRIVER=x11 refuses "no window" "$log"
+    say "the viewer refuses $refused bad command lines with status 2 and one line"
+}
+
+start_server() {
+    mkdir "$out/screen"
+    Xvfb -noreset -displayfd 5 -screen 0 1100x600x24 -fbdir "$out/screen" 5>"$out/display" 2>"$out/server" &
+    server=$!
+    for _ in $(seq 100); do
+        [ ! -s "$out/display" ] || break
+        sleep 0.1
+    done
+    [ -s "$out/display" ] || fail "Xvfb does not start: $(tail -n 2 "$out/server")"
+    DISPLAY=:$(cat "$out/display")
+    export DISPLAY SDL_VIDEODRIVER=x11 SDL_FRAMEBUFFER_ACCELERATION=0
+}
+
+# start COMPILER WORD..: the viewer in the background, until its window is there
+start() {
+    (cd "$out" && exec "$out/viewer-$1" "${@:2}") 2>"$out/errors" &
+    viewer=$!
+    window=
+    while kill -0 "$viewer" 2>/dev/null; do
+        window=$(xdotool search --onlyvisible --name '\.log: ' 2>/dev/null) && break
+        sleep 0.05
+    done
+    [ -n "$window" ] || fail "no window of viewer ${*:2}: $(cat "$out/errors")"
+}
+
+# Waits until the window's title is like this.
+title() {
+    local name=
+    for _ in $(seq 200); do
+        name=$(xdotool getwindowname "$window")
+        # shellcheck disable=SC2053
+        [[ "$name" != $1 ]] || return 0
+        sleep 0.05
+    done
+    fail "the window's title is '$name', not '$1'"
+}
+
+keys() { xdotool key --delay 4 "$@"; }
+
+# The window's place, as window.py takes it.
+place() {
+    local X Y WIDTH HEIGHT
+    eval "$(xdotool getwindowgeometry --shell "$window" | grep -E '^(X|Y|WIDTH|HEIGHT)=[0-9]+$')"
+    echo "$out/screen/Xvfb_screen0,$X,$Y,$WIDTH,$HEIGHT"
+}
+
+# A key that ends the viewer.
+quit() {
+    local status=0
+    keys "$1"
+    for _ in $(seq 200); do
+        kill -0 "$viewer" 2>/dev/null || break
+        sleep 0.05
+    done
+    ! kill -0 "$viewer" 2>/dev/null || fail "the key $1 does not end the viewer"
+    wait "$viewer" || status=$?
+    viewer=
+    [ "$status" = 0 ] || fail "the viewer ends with $status: $(cat "$out/errors")"
+    [ ! -s "$out/errors" ] || fail "the viewer says $(cat "$out/errors")"
+}
+
+# Every key, on examples/picture.log; the screen against the stored ones
+test_keys() {
+    start "${compilers[0]}" --until-picture 3 "$root/examples/picture.log"
+    title "picture.log: picture 3, paused before line 240"
+    look "$job" "$(place)" "$stored/paused.png"
+    keys n
+    title "picture.log: picture 4, paused before line 240"
+    keys Right
+    title "picture.log: picture 4, end of log"
+    keys space n l
+    title "picture.log: picture 4, end of log"
+    keys r
+    title "picture.log: picture 0, paused before line 0"
+    keys n n n
+    title "picture.log: picture 3, paused before line 240"
+    keys --repeat 21 l
+    title "picture.log: picture 3, paused before line 261"
+    keys Down
+    title "picture.log: picture 3, paused before line 0"
+    keys --repeat 100 l
+    title "picture.log: picture 3, paused before line 100"
+    look "$job" "$(place)" "$stored/within.png"
+    keys s n
+    title "picture.log: picture 4, paused before line 240"
+    look bmp "$out/screen-3-100.bmp" "$stored/within.png"
+    quit q
+    say "the viewer's keys n, Right, l, Down, r, s, q; its screen is tests/viewer/paused.png and, within a picture, within.png (${job})"
+}
+
+# The picture against a reckoning, in the colours of a file, in greys, within a picture, and in a window of another size. It is the third:
+# the log has run no line 261 between its last address and the second picture, which therefore begins at that address.
+test_pictures() {
+    start "${compilers[-1]}" --scale 1 --palette "$out/palette" --until-picture 3 "$root/examples/picture.log"
+    title "picture.log: picture 3, paused before line 240"
+    look picture "$(place)" "$out/palette" 240
+    keys --repeat 122 l
+    title "picture.log: picture 3, paused before line 100"
+    look picture "$(place)" "$out/palette" 100
+    xdotool windowmove "$window" 30 5 windowsize --sync "$window" 1030 590
+    keys l
+    title "picture.log: picture 3, paused before line 101"
+    look picture "$(place)" "$out/palette" 101
+    quit Escape
+    start "${compilers[-1]}" --paused --scale 1 --palette "$out/palette" "$out/grey.log"
+    title "grey.log: picture 0, paused before line 0"
+    keys n n n
+    title "grey.log: picture 3, paused before line 240"
+    look picture "$(place)" "$out/palette" 240 grey
+    quit q
+    say "the viewer's picture is the reckoned one: in a file's colours, after 100 lines of it, at twice its size, in greys"
+}
+
+# 60 pictures a second, and the space bar
+test_time() {
+    local before after
+    before=$(date +%s%N)
+    start "${compilers[0]}" --until-picture 60 "$out/long.log"
+    title "long.log: picture 60, paused before line 240"
+    after=$(date +%s%N)
+    local took=$(((after - before) / 1000000))
+    if [ "$took" -lt 950 ] || [ "$took" -gt 4000 ]; then fail "60 pictures in $took ms"; fi
+    keys space
+    title "long.log: picture *, playing"
+    keys space
+    title "long.log: picture *, paused before line 240"
+    local name
+    name=$(xdotool getwindowname "$window")
+    sleep 0.2
+    title "$name"
+    quit Escape
+    say "60 pictures in $took ms, with the start; the space bar plays and pauses"
+}
+
+# What the panel says of a log's last record is what the player prints of it: the line that it prints for that record, or none for a write.
+panel_like_player() {
+    local log=$1 records printed wanted
+    records=$((($(stat -c %s "$log") + 3) / 4))
+    start checked --scale 1 "$log"
+    title "$(basename "$log"): picture *, end of log"
+    look panel "$(place)" >"$out/panel"
+    quit q
+    "$prefix/bin/ppu-player" <"$log" >"$out/all"
+    head -c $(((records - 1) * 4)) "$log" | "$prefix/bin/ppu-player" >"$out/before"
+    printed=$(tail -n +$(($(wc -l <"$out/before") + 1)) "$out/all")
+    case $printed in
+    "") wanted=(DONE) ;;
+    line*) read -r _ next _ nmi <<<"$printed" && wanted=(DONE "NEXT LINE   $next" "NMI LEVEL   $nmi") ;;
+    refused*) wanted=("REFUSED ${printed#refused }: .*" "LAST REFUSAL ${printed#refused } AT $records") ;;
+    *) wanted=("GAVE \$$printed") ;;
+    esac
+    local text
+    for text in "RECORD $records/$records" "${wanted[@]}"; do
+        grep -qx "$text" "$out/panel" || fail "$(basename "$log"): the player prints '$printed', and the panel has no '$text': $(cat "$out/panel")"
+    done
+    compared=$((compared + 1))
+}
+
+test_panel() {
+    local compared=0 log
+    for log in "$out"/panel-*.log; do
+        panel_like_player "$log"
+    done
+    [ "$compared" -gt 10 ] || fail "no logs for the panel"
+    say "the panel says of the last record what the player prints, on $compared logs, cut and bad and random ones too; with the sanitizers"
+}
+
+test_viewer() {
+    local compiler
+    for compiler in "${compilers[@]}"; do
+        compile "$compiler" "$compiler" viewer "ppu sdl2"
+    done
+    compile checked "${compilers[0]}" viewer "ppu sdl2" -g -fsanitize=address,undefined -fno-sanitize-recover=all
+    look logs "$out"
+    test_bad_words
+    if ! has Xvfb || ! has xdotool; then
+        skip "the viewer's window, for want of Xvfb or xdotool"
+        return
+    fi
+    start_server
+    test_keys
+    test_pictures
+    test_time
+    test_panel
+}
+
+archive=$(realpath "${PPU_ARCHIVE:-target/staticlib/libppu.a}")
+player=$root/target/bin/player
+[ -f "$archive" ] || fail "no archive $archive: rt staticlib ppu makes it"
+[ -x "$player" ] || fail "no player $player: ./play makes it"
+compilers=()
+for name in gcc clang; do
+    ! has "$name" || compilers+=("$name")
+done
+[ ${#compilers[@]} -gt 0 ] || compilers=("${CC:-cc}")
+install_missing
+test_install
+export PKG_CONFIG_PATH=$prefix/lib/pkgconfig ASAN_OPTIONS=detect_leaks=0 # SDL keeps some memory
+if has pkg-config; then
+    test_minimal
+else
+    skip "the examples, for want of pkg-config"
+fi
+if has pkg-config && pkg-config --exists sdl2; then
+    test_viewer
+else
+    skip "the viewer, for want of SDL2"
+fi
+make_as_user uninstall PREFIX="$prefix"
+[ -z "$(find "$prefix" -type f)" ] || fail "make uninstall leaves $(find "$prefix" -type f)"
+say "all passed${skipped:+, but for what was skipped}"
