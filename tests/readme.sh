@@ -1,0 +1,77 @@
+#!/usr/bin/env bash
+# The commands of README.md and of examples/README.md, as written, each from the project's root, with a home folder of the test's own; README.md's
+# picture and its C sample. Those of tools/README.md are tested by tests/tools.sh, `.ci/run` by running it.
+# PPU_ARCHIVE names another archive than target/staticlib/libppu.a.
+set -euo pipefail
+cd "$(dirname "$0")/.."
+archive=$(realpath "${PPU_ARCHIVE:-target/staticlib/libppu.a}")
+player=$(realpath target/bin/player)
+out=$(mktemp -d)
+trap 'rm -rf "$out"' EXIT
+ran=0 skipped=0
+
+fail() {
+    echo "tests/readme.sh: $*" >&2
+    exit 1
+}
+
+# The indented lines of a page that are commands, without what is said behind them.
+commands_of() {
+    sed '/^```/,/^```/d' "$1" | sed -n 's/^    \([.a-zA-Z$].*\)$/\1/p' | sed 's/ \{2,\}#.*//' | grep -v '\[--' || true
+}
+
+has() { command -v "$1" >/dev/null; }
+
+# What cannot be run here: the gate itself, an install by hand, a window without a screen (tests/examples.sh opens one), libraries that are missing.
+left_out() {
+    case $1 in
+    .ci/run* | sudo\ * | target/viewer*) return 0 ;;
+    *sdl2*) ! pkg-config --exists sdl2 2>/dev/null ;;
+    tools/ppu-picture*) [ ! -e /usr/include/png.h ] ;;
+    *) return 1 ;;
+    esac
+}
+
+# One command, in the shell that the commands before it have left. make takes this archive and this player as they are.
+run_page() {
+    local page=$1 command
+    export HOME=$out/home
+    mkdir -p "$HOME"
+    : >"$out/commands"
+    while IFS= read -r command; do
+        if left_out "$command"; then
+            echo "tests/readme.sh: $page: left out: $command"
+            skipped=$((skipped + 1))
+            continue
+        fi
+        case $command in make | make\ *) command="$command ARCHIVE=$archive PLAYER=$player" ;; esac
+        printf '%s || { echo %q >&2; exit 1; }\n' "$command" "tests/readme.sh: $page: failed: $command" >>"$out/commands"
+        ran=$((ran + 1))
+    done < <(commands_of "$page")
+    bash -uo pipefail "$out/commands" >"$out/printed" 2>"$out/errors" || fail "$page: $(tail -n 3 "$out/errors")"
+}
+
+# README.md's picture is what its command has just drawn.
+same_picture() {
+    [ -e target/picture.png ] || return 0
+    python3 tests/pictures.py scaled 1 docs/picture.png target/picture.png || fail "docs/picture.png is not what README.md's command draws"
+    echo "tests/readme.sh: docs/picture.png is what README.md's command draws"
+}
+
+# The C sample, with a main around it, on a unit that was never made: all zero is well formed, so a line is run.
+sample() {
+    sed -n '/^```c$/,/^```$/{/^```/!p}' README.md >"$out/sample.c"
+    [ "$(wc -l <"$out/sample.c")" -ge 10 ] || fail "README.md has no C sample"
+    echo 'int main(void) { return picture_line() && unit[PPU_AT_NEXT_LINE] == 1 ? 0 : 1; }' >>"$out/sample.c"
+    "${CC:-cc}" -std=c99 -pedantic -Wall -Wextra -Werror -Iinclude -o "$out/sample" "$out/sample.c" "$archive" || fail "README.md's C sample"
+    "$out/sample" || fail "README.md's C sample gives no line"
+    echo "tests/readme.sh: the C sample compiles and runs a line"
+}
+
+rm -f target/picture.png
+run_page README.md
+same_picture
+sample
+run_page examples/README.md
+[ "$ran" -ge 8 ] || fail "only $ran commands found"
+echo "tests/readme.sh: $ran commands of README.md and examples/README.md work as written, $skipped left out"
