@@ -8,51 +8,50 @@ use Rattle.ppu.proofs.access_sizes.Reads as access-sizes-reads
 use Rattle.ppu.proofs.finish.Reads as finish-reads
 use Rattle.ppu.proofs.read.Reads as read-reads
 use Rattle.ppu.proofs.record_refusal.Reads as record-refusal-reads
-use Rattle.ppu.proofs.unread.Reads as unread-reads
 use Rattle.ppu.proofs.zero_board.Reads as zero-board-reads
 use Rattle.record.proofs.read_unit.Reads as read-unit-reads
 
--- src/lib.rt:493:9
-record-refusal-requires : tie.Need-record-refusal-requires
-record-refusal-requires c κs = search needs
-
--- src/lib.rt:495:13
+-- src/lib.rt:486:9
 zero-board-requires : tie.Need-zero-board-requires
 zero-board-requires c κs = search needs
 
--- src/lib.rt:496:13
+-- src/lib.rt:487:9
 access-sizes-requires : tie.Need-access-sizes-requires
 access-sizes-requires c κs = search needs
 
--- src/lib.rt:504:9
-unread-requires : tie.Need-unread-requires
-unread-requires c κs = search needs
+-- src/lib.rt:495:9
+record-refusal-requires : tie.Need-record-refusal-requires
+record-refusal-requires c κs = search needs
 
--- src/lib.rt:504:9
+-- src/lib.rt:497:16
+cast-result : tie.Need-cast-result
+cast-result c = search needs
+
+-- src/lib.rt:497:9
 same-length : tie.Need-same-length
 same-length c = search needs
 
--- src/lib.rt:504:9
+-- src/lib.rt:497:9
 returns : tie.Need-returns
 returns c = search export-cases
 
--- src/lib.rt:506:9
+-- src/lib.rt:499:9
 read-unit-requires : tie.Need-read-unit-requires
 read-unit-requires c κs = search form-long
 
--- src/lib.rt:507:9
+-- src/lib.rt:500:9
 read-requires : tie.Need-read-requires
 read-requires c κs = search needs
 
--- src/lib.rt:508:5
+-- src/lib.rt:501:5
 finish-requires : tie.Need-finish-requires
 finish-requires c κs = search needs
 
--- src/lib.rt:480:1
+-- src/lib.rt:473:1
 same-length-2 : tie.Need-same-length-2
 same-length-2 c = search needs
 
--- src/lib.rt:480:1
+-- src/lib.rt:473:1
 returns-2 : tie.Need-returns-2
 returns-2 c = search export-cases
 
@@ -60,10 +59,10 @@ pub ppu-read-spec : {M : Type 1} → statement M
 ppu-read-spec =
     tie.close
     (tie.spec
-    record-refusal-requires
     zero-board-requires
     access-sizes-requires
-    unread-requires
+    record-refusal-requires
+    cast-result
     same-length
     returns
     read-unit-requires

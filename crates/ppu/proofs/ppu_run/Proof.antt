@@ -8,55 +8,54 @@ use Rattle.ppu.proofs.finish.Reads as finish-reads
 use Rattle.ppu.proofs.line_sizes.Reads as line-sizes-reads
 use Rattle.ppu.proofs.record_refusal.Reads as record-refusal-reads
 use Rattle.ppu.proofs.run.Reads as run-reads
-use Rattle.ppu.proofs.unread.Reads as unread-reads
 use Rattle.ppu.proofs.zero_board.Reads as zero-board-reads
 use Rattle.record.proofs.read_unit.Reads as read-unit-reads
 
--- src/lib.rt:605:9
-record-refusal-requires : tie.Need-record-refusal-requires
-record-refusal-requires c κs = search needs
-
--- src/lib.rt:607:13
+-- src/lib.rt:598:9
 zero-board-requires : tie.Need-zero-board-requires
 zero-board-requires c κs = search needs
 
--- src/lib.rt:608:13
+-- src/lib.rt:599:9
 line-sizes-requires : tie.Need-line-sizes-requires
 line-sizes-requires c κs = search needs
 
--- src/lib.rt:616:9
-unread-requires : tie.Need-unread-requires
-unread-requires c κs = search needs
+-- src/lib.rt:607:9
+record-refusal-requires : tie.Need-record-refusal-requires
+record-refusal-requires c κs = search needs
 
--- src/lib.rt:616:9
+-- src/lib.rt:609:16
+cast-result : tie.Need-cast-result
+cast-result c = search needs
+
+-- src/lib.rt:609:9
 same-length : tie.Need-same-length
 same-length c = search needs
 
--- src/lib.rt:616:9
+-- src/lib.rt:609:9
 returns : tie.Need-returns
 returns c = search export-cases
 
--- src/lib.rt:618:9
+-- src/lib.rt:611:9
 read-unit-requires : tie.Need-read-unit-requires
 read-unit-requires c κs = search form-long
 
--- src/lib.rt:619:9
+-- src/lib.rt:612:9
 run-requires : tie.Need-run-requires
 run-requires c κs = search needs
 
--- src/lib.rt:620:5
+-- src/lib.rt:613:5
 finish-requires : tie.Need-finish-requires
 finish-requires c κs = search needs
 
--- src/lib.rt:592:1
+-- src/lib.rt:585:1
 same-length-2 : tie.Need-same-length-2
 same-length-2 c = search needs
 
--- src/lib.rt:592:1
+-- src/lib.rt:585:1
 same-length-3 : tie.Need-same-length-3
 same-length-3 c = search needs
 
--- src/lib.rt:592:1
+-- src/lib.rt:585:1
 returns-2 : tie.Need-returns-2
 returns-2 c = search export-cases
 
@@ -64,10 +63,10 @@ pub ppu-run-spec : {M : Type 1} → statement M
 ppu-run-spec =
     tie.close
     (tie.spec
-    record-refusal-requires
     zero-board-requires
     line-sizes-requires
-    unread-requires
+    record-refusal-requires
+    cast-result
     same-length
     returns
     read-unit-requires
