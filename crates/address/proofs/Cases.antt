@@ -1,23 +1,19 @@
 -- The ways of each function, for `search`.
 use Prim.Native.Nat.{ℕ, _+_, _-_, _*_, _/_, _%_, _<_, _≤_}
-use mathlib.Core.Path.{_≡_, refl, sym, ap, _∙_, subst}
-use mathlib.Core.Bool.{Bool, true, false, cond}
+use mathlib.Core.Path.{_≡_, ap, _∙_}
+use mathlib.Core.Bool.{Bool, true, false}
 use mathlib.Core.List.{List, [], _∷_}
 use native.Mathlib.Nat.{add-sub-cancel-left}
 use native.Mathlib.Omega.{arith}
-use lib.Dec.{eqb, ltb}
-use lib.ListN.{length, getD, set, take, drop}
+use lib.ListN.{length, getD, take, drop}
 use borrow.Author.Tests.{eq-eqb, ne-eqb, lt-ltb, le-ltb}
 use Rattle.model.specs.declared.Board.{Board}
 use Rattle.model.specs.declared.Wiring.{Wiring}
 use Rattle.model.specs.declared.Place.{Place}
 use Rattle.model.specs.declared.Place.the-variants.{Pattern, Nametable, Palette}
-use Rattle.model.specs.declared.Ppu.{Ppu}
-use Rattle.model.specs.Unit.{Cells, video, VideoLengths, dropsOam}
-use Rattle.model.specs.Ports.{wroteVideo, wroteOamBytes, bufferByte, oamByte, attributeBits}
-use Rattle.model.proofs.Address.{page-small, place-in}
+use Rattle.model.proofs.Address.{page-small}
 use Rattle.address.proofs.Table.{at2}
-use Rattle.model.specs.Address.{wiringNumber, pageAt, cellOf, paletteCell, placeOf, inPlace, byteAt, stored, tableOf, tileIn, tilePart, withLeft, withRight, withNametables, withPalette}
+use Rattle.model.specs.Address.{wiringNumber, pageAt, cellOf, paletteCell, placeOf, tileIn, tilePart}
 
 -- the table's rule, once over all entries
 abbrev pub pages : List (List ℕ)

@@ -3,7 +3,7 @@
 ghost use mathlib.Core.Path.{_≡_};
 ghost use Prim.Native.Nat.{_<_, _%_};
 ghost use lib.ListN.{length};
-ghost use Rattle.model.specs.Unit.{nametableLength, patternLength};
+ghost use Rattle.model.specs.Unit.{patternLength};
 ghost use Rattle.model.specs.Address.{wiringNumber, pageAt, cellOf, paletteCell, placeOf, tileIn, tilePart};
 use model::Board;
 use model::Place;

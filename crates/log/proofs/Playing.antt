@@ -1,8 +1,8 @@
 -- The play of one entry, of a log, and of a block of one, for `search`.
-use Prim.Native.Nat.{ℕ, zero, suc, _+_, _-_, _*_, _/_, _<_, _≤_, min}
+use Prim.Native.Nat.{ℕ, suc, _+_, _-_, _*_, _/_, _<_, _≤_, min}
 use mathlib.Core.Path.{_≡_, refl, sym, ap, _∙_}
 use mathlib.Core.Bool.{Bool, true, false, cond, _||_}
-use mathlib.Core.List.{List, [], _∷_, _++_, append-assoc, append-nil}
+use mathlib.Core.List.{List, [], _++_, append-assoc, append-nil}
 use mathlib.Core.Logic.{⊎-elim}
 use native.Mathlib.Omega.{arith}
 use native.Mathlib.Numerals.{add-one}
@@ -15,7 +15,7 @@ use Rattle.model.specs.declared.Access.{Access}
 use Rattle.model.specs.declared.Entry.{Entry}
 use Rattle.model.specs.declared.Entry.the-variants.{Read, Write, Run, End, Refused}
 use Rattle.model.specs.Unit.{Memory, accessMemory, lineMemory, State, state}
-use Rattle.model.specs.Calls.{own, readCall, writeCall, runCall, Outcome, outcome, outcomeOn, access, doneAnswer, refusedAccess, accessOutcome, lineOutcome, onLent}
+use Rattle.model.specs.Calls.{own, readCall, writeCall, runCall, Outcome, outcomeOn, access, doneAnswer, refusedAccess, accessOutcome, lineOutcome, onLent}
 use Rattle.model.specs.Log.{recordsOf, entryOf, playEntry, entryText, ends, playedText, playedState, playEnds}
 use Rattle.model.proofs.Scroll.{lt-or-ge}
 use Rattle.model.proofs.Calls.{restores, frame}

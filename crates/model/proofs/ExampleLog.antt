@@ -1,6 +1,6 @@
 -- The document's example of a log: what is played and what is printed.
 use mathlib.Core.Path.{_≡_, refl}
-use mathlib.Core.List.{List, [], _∷_, _++_}
+use mathlib.Core.List.{List, [], _∷_}
 use Prim.Native.Nat.{ℕ}
 use Rattle.model.specs.Unit.{isWellFormed, isDrawing, isRendering, nmiLevel}
 use Rattle.model.specs.Record.{wiringAt}

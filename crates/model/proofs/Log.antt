@@ -1,15 +1,15 @@
 -- The play of a log: by entries, by parts, and how long what it prints is.
 use mathlib.Core.Path.{_≡_, refl, sym, ap, _∙_}
-use mathlib.Core.Bool.{Bool, true, false, true≢false, cond, _&&_, _||_}
+use mathlib.Core.Bool.{Bool, true, false, true≢false, cond, _||_}
 use mathlib.Core.List.{List, [], _∷_, _++_, append-assoc, append-nil}
-use Prim.Native.Nat.{ℕ, zero, suc, _+_, _*_, _/_, _%_, _≤_, _<_}
+use Prim.Native.Nat.{ℕ, _+_, _*_, _%_, _≤_, _<_}
 use native.Mathlib.Omega.{arith}
 use lib.Dec.{eqb, ltb}
 use lib.ListN.{length, drop, length-append}
 use Rattle.model.specs.declared.Answer.{Answer}
 use Rattle.model.specs.declared.Entry.{Entry}
 use Rattle.model.specs.declared.Entry.the-variants.{Read, Write, Run, End, Refused}
-use Rattle.model.specs.Unit.{State, state}
+use Rattle.model.specs.Unit.{State}
 use Rattle.model.specs.Calls.{own, readCall, writeCall, runCall, Outcome, outcome, refusal, onLent}
 use Rattle.model.specs.Log.{Record, whole, cut, recordsOf, recordKnown, recordCall, playOne, recordEntry, entryOf, playEntry, decimal, readText, runText, refusedText, doneText, kindOf, textOf, entryDone, entryText, ends, playedText, playedState, playEnds}
 use Rattle.model.proofs.Tests.{cond-both}

@@ -2,7 +2,7 @@
 // unit of board 9 and memory that is all zero. The work is done by the crate log; here are the reads and writes.
 // read_more, goes_on, turn: one block. turns_left, play_input: block after block. main: the memory.
 ghost use mathlib.Core.Path.{_≡_};
-ghost use Prim.Native.Nat.{_+_, _*_, _/_, _<_, _≤_};
+ghost use Prim.Native.Nat.{_+_, _<_, _≤_};
 ghost use lib.ListN.{length};
 ghost use Rattle.model.specs.Unit.{state};
 ghost use Rattle.model.specs.Log.{startState};

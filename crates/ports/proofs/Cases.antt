@@ -1,14 +1,12 @@
 -- The ways of each function, for `search`.
-use Prim.Native.Nat.{ℕ, zero, suc, _+_, _*_, _/_, _%_, _<_, _≤_}
+use Prim.Native.Nat.{ℕ, _+_, _*_, _/_, _%_, _<_, _≤_}
 use mathlib.Core.Path.{_≡_, refl, sym, ap, _∙_}
-use mathlib.Core.Bool.{Bool, true, false, cond}
-use mathlib.Core.List.{List, [], _∷_}
+use mathlib.Core.List.{List, []}
 use native.Mathlib.Omega.{arith}
 use native.Mathlib.Numerals.{add-one}
-use lib.Dec.{eqb, ltb}
 use lib.ListN.{length, getD, drop}
 use lib.Seq.{drop-cons, drop-length}
-use borrow.Author.Tests.{eq-eqb, ne-eqb, lt-ltb, le-ltb}
+use borrow.Author.Tests.{ne-eqb, lt-ltb, le-ltb}
 use Rattle.model.specs.declared.Ppu.{Ppu}
 use Rattle.model.specs.declared.Access.{Access}
 use Rattle.model.specs.declared.Place.{Place}
@@ -18,7 +16,7 @@ use Rattle.model.specs.Address.{withOam, paletteCell, byteAt, placeOf}
 use Rattle.model.specs.Ports.{stepped, greyed, statusByte, oamByte, dataByte, bufferByte, readByte, readStatus, readData, readUnit, wroteUnit, wroteVideo, wroteOamBytes, wroteMemory, dmaUnit, dmaOam}
 use Rattle.model.specs.Calls.{access, doneAnswer, outcome, accessOutcome, dmaOutcome, readDone, writeDone, dmaDone}
 use Rattle.model.proofs.Ports.{video-oam}
-use Rattle.ports.specs.Copy.{Copied, copied, copyOf}
+use Rattle.ports.specs.Copy.{copied, copyOf}
 
 -- the answer of a read
 module _ (u : Ppu) (k r : ℕ) (o q : List ℕ) where

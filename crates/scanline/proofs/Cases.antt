@@ -1,15 +1,15 @@
 -- The ways of each function, for `search`.
-use Prim.Native.Nat.{ℕ, zero, suc, _+_, _-_, _*_, _/_, _%_, _<_, _≤_}
-use mathlib.Core.Path.{_≡_, refl, sym, ap, _∙_, subst}
+use Prim.Native.Nat.{ℕ, _+_, _-_, _*_, _/_, _%_, _<_, _≤_}
+use mathlib.Core.Path.{_≡_, refl, sym, ap, _∙_}
 use mathlib.Core.Bool.{Bool, true, false, true≢false, cond, _&&_}
-use mathlib.Core.List.{List, []}
+use mathlib.Core.List.{List}
 use native.Mathlib.Omega.{arith}
 use native.Mathlib.Numerals.{add-one}
-use lib.Dec.{eqb, ltb}
-use lib.ListN.{length, getD, take}
+use lib.Dec.{ltb}
+use lib.ListN.{length, getD}
 use borrow.Author.Tests.{lt-ltb, le-ltb, ltb-true}
 use Rattle.model.specs.declared.Ppu.{Ppu}
-use Rattle.model.specs.Unit.{unit, withScanline, State, state, lineMemory, bit, lastLine, isRendering, isWellFormed}
+use Rattle.model.specs.Unit.{unit, withScanline, State, state, lineMemory, bit, isRendering, isWellFormed}
 use Rattle.model.specs.Address.{tableOf}
 use Rattle.model.specs.Scroll.{rowDown, copySide}
 use Rattle.model.specs.Background.{backgroundAt}

@@ -7,30 +7,11 @@ ghost use mathlib.Core.Bool.{cond, true, false, _&&_};
 ghost use mathlib.Core.List.{List, []};
 ghost use Prim.Native.Nat.{ℕ, _+_, _-_, _%_, _<_, _≤_};
 ghost use lib.Dec.{eqb, ltb};
-ghost use lib.ListN.{length, getD, take};
+ghost use lib.ListN.{length, take};
 ghost use Rattle.model.specs.Unit.{state, lineMemory, lineLength, bit, isRendering, isWellFormed};
 ghost use Rattle.model.specs.Sprites.{covers, placesOf, overflows};
-ghost use Rattle.model.specs.Line.{
-  tab,
-  anyOf,
-  marked,
-  hitOf,
-  pixelOf,
-  picture,
-  drawnUnit,
-  oneLine,
-  linesRun,
-  nmiCount,
-};
-ghost use Rattle.scanline.specs.Shown.{
-  LineLengths,
-  backOf,
-  overOf,
-  zeroOf,
-  overLine,
-  hitLine,
-  seen,
-};
+ghost use Rattle.model.specs.Line.{tab, anyOf, marked, hitOf, picture, drawnUnit, oneLine, linesRun, nmiCount};
+ghost use Rattle.scanline.specs.Shown.{LineLengths, backOf, overLine, hitLine, seen};
 use model::Board;
 use model::Ppu;
 

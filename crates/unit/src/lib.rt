@@ -2,7 +2,7 @@
 // rendering, drawing, well_formed, nmi; v's steps: row_down, column_right, copy_side;
 // lines that draw nothing: blank_line; what a call hands back: done, refused.
 ghost use mathlib.Core.Path.{_≡_};
-ghost use Prim.Native.Nat.{ℕ, _+_, _*_, _/_, _%_, _<_};
+ghost use Prim.Native.Nat.{_+_, _*_, _/_, _%_, _<_};
 ghost use Rattle.model.specs.Unit.{isRendering, isDrawing, isWellFormed, nmiLevel};
 ghost use Rattle.model.specs.Scroll.{turn10, turn11, rowDown, right, copySide};
 ghost use Rattle.model.specs.Line.{preRenderLine, blankUnit};

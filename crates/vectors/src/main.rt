@@ -3,7 +3,6 @@
 // stepped, lowered, printed. Lines: say, say_hex.
 // One function a group of values: cells, palette_cells, scrolling, stepping, rows, status, runs, refusals.
 ghost use Prim.Native.Nat.{_≤_};
-ghost use lib.ListN.{length};
 use model::Access;
 use model::Ppu;
 

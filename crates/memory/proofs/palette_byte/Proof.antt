@@ -1,4 +1,3 @@
-use lib.ListN.{getD}
 use borrow.Author.Needs.{needs}
 use Rattle.memory.proofs.palette_byte.Statement.{statement}
 use Rattle.memory.proofs.palette_byte.Tie as tie

@@ -5,8 +5,8 @@ use Rattle.ppu.proofs.dma.Tie as tie
 use Rattle.ppu.proofs.dma.Reads as reads
 use Rattle.ppu.proofs.dma.Lts as lts
 use Rattle.ports.proofs.dma.Reads as dma-reads
-use Rattle.ppu.proofs.dma_sizes.Reads as dma-sizes-reads
-use Rattle.ppu.proofs.plain_refusal.Reads as plain-refusal-reads
+use Rattle.refusals.proofs.dma_sizes.Reads as dma-sizes-reads
+use Rattle.refusals.proofs.plain_refusal.Reads as plain-refusal-reads
 use Rattle.unit.proofs.refused.Reads as refused-reads
 
 -- src/lib.rt:252:9

@@ -5,7 +5,7 @@ use Rattle.ppu.proofs.fresh_record.Tie as tie
 use Rattle.ppu.proofs.fresh_record.Reads as reads
 use Rattle.ppu.proofs.fresh_record.Lts as lts
 use Rattle.ppu.proofs.fresh.Reads as fresh-reads
-use Rattle.ppu.proofs.unmade.Reads as unmade-reads
+use Rattle.refusals.proofs.unmade.Reads as unmade-reads
 
 -- src/lib.rt:289:9
 unmade-requires : tie.Need-unmade-requires

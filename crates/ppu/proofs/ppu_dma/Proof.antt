@@ -5,9 +5,9 @@ use Rattle.ppu.proofs.ppu_dma.Tie as tie
 use Rattle.ppu.proofs.ppu_dma.Reads as reads
 use Rattle.ppu.proofs.ppu_dma.Lts as lts
 use Rattle.ppu.proofs.dma.Reads as dma-reads
-use Rattle.ppu.proofs.dma_sizes.Reads as dma-sizes-reads
-use Rattle.ppu.proofs.finish.Reads as finish-reads
-use Rattle.ppu.proofs.record_refusal.Reads as record-refusal-reads
+use Rattle.refusals.proofs.dma_sizes.Reads as dma-sizes-reads
+use Rattle.refusals.proofs.finish.Reads as finish-reads
+use Rattle.refusals.proofs.record_refusal.Reads as record-refusal-reads
 use Rattle.record.proofs.read_unit.Reads as read-unit-reads
 
 -- src/lib.rt:543:9

@@ -4,11 +4,11 @@ use Rattle.ppu.proofs.ppu_line.Statement.{statement}
 use Rattle.ppu.proofs.ppu_line.Tie as tie
 use Rattle.ppu.proofs.ppu_line.Reads as reads
 use Rattle.ppu.proofs.ppu_line.Lts as lts
-use Rattle.ppu.proofs.finish.Reads as finish-reads
+use Rattle.refusals.proofs.finish.Reads as finish-reads
 use Rattle.ppu.proofs.line.Reads as line-reads
-use Rattle.ppu.proofs.line_sizes.Reads as line-sizes-reads
-use Rattle.ppu.proofs.record_refusal.Reads as record-refusal-reads
-use Rattle.ppu.proofs.zero_board.Reads as zero-board-reads
+use Rattle.refusals.proofs.line_sizes.Reads as line-sizes-reads
+use Rattle.refusals.proofs.record_refusal.Reads as record-refusal-reads
+use Rattle.refusals.proofs.zero_board.Reads as zero-board-reads
 use Rattle.record.proofs.read_unit.Reads as read-unit-reads
 
 -- src/lib.rt:566:9

@@ -4,11 +4,11 @@ use Rattle.ppu.proofs.ppu_read.Statement.{statement}
 use Rattle.ppu.proofs.ppu_read.Tie as tie
 use Rattle.ppu.proofs.ppu_read.Reads as reads
 use Rattle.ppu.proofs.ppu_read.Lts as lts
-use Rattle.ppu.proofs.access_sizes.Reads as access-sizes-reads
-use Rattle.ppu.proofs.finish.Reads as finish-reads
+use Rattle.refusals.proofs.access_sizes.Reads as access-sizes-reads
+use Rattle.refusals.proofs.finish.Reads as finish-reads
 use Rattle.ppu.proofs.read.Reads as read-reads
-use Rattle.ppu.proofs.record_refusal.Reads as record-refusal-reads
-use Rattle.ppu.proofs.zero_board.Reads as zero-board-reads
+use Rattle.refusals.proofs.record_refusal.Reads as record-refusal-reads
+use Rattle.refusals.proofs.zero_board.Reads as zero-board-reads
 use Rattle.record.proofs.read_unit.Reads as read-unit-reads
 
 -- src/lib.rt:486:9

@@ -5,9 +5,9 @@ use Rattle.ppu.proofs.read.Tie as tie
 use Rattle.ppu.proofs.read.Reads as reads
 use Rattle.ppu.proofs.read.Lts as lts
 use Rattle.ports.proofs.read.Reads as read-reads
-use Rattle.ppu.proofs.access_refusal.Reads as access-refusal-reads
-use Rattle.ppu.proofs.access_sizes.Reads as access-sizes-reads
-use Rattle.ppu.proofs.blocked_read.Reads as blocked-read-reads
+use Rattle.refusals.proofs.access_refusal.Reads as access-refusal-reads
+use Rattle.refusals.proofs.access_sizes.Reads as access-sizes-reads
+use Rattle.refusals.proofs.blocked_read.Reads as blocked-read-reads
 use Rattle.unit.proofs.refused.Reads as refused-reads
 
 -- src/lib.rt:202:9

@@ -4,8 +4,8 @@ use Rattle.ppu.proofs.run_all.Statement.{statement}
 use Rattle.ppu.proofs.run_all.Tie as tie
 use Rattle.ppu.proofs.run_all.Reads as reads
 use Rattle.ppu.proofs.run_all.Lts as lts
-use Rattle.ppu.proofs.line_sizes.Reads as line-sizes-reads
-use Rattle.ppu.proofs.plain_refusal.Reads as plain-refusal-reads
+use Rattle.refusals.proofs.line_sizes.Reads as line-sizes-reads
+use Rattle.refusals.proofs.plain_refusal.Reads as plain-refusal-reads
 use Rattle.ppu.proofs.run_done.Reads as run-done-reads
 use Rattle.unit.proofs.refused.Reads as refused-reads
 

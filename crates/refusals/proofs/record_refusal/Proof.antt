@@ -1,9 +1,9 @@
-use Rattle.ppu.proofs.Cases.{form-cases}
+use Rattle.refusals.proofs.Cases.{form-cases}
 use borrow.Author.Needs.{needs}
-use Rattle.ppu.proofs.record_refusal.Statement.{statement}
-use Rattle.ppu.proofs.record_refusal.Tie as tie
-use Rattle.ppu.proofs.record_refusal.Reads as reads
-use Rattle.ppu.proofs.record_refusal.Lts as lts
+use Rattle.refusals.proofs.record_refusal.Statement.{statement}
+use Rattle.refusals.proofs.record_refusal.Tie as tie
+use Rattle.refusals.proofs.record_refusal.Reads as reads
+use Rattle.refusals.proofs.record_refusal.Lts as lts
 use Rattle.record.proofs.bytes_ok.Reads as bytes-ok-reads
 use Rattle.record.proofs.read_unit.Reads as read-unit-reads
 use Rattle.unit.proofs.well_formed.Reads as well-formed-reads

@@ -1,8 +1,8 @@
-use Rattle.ppu.proofs.Cases.{sizes-cases}
-use Rattle.ppu.proofs.access_sizes.Statement.{statement}
-use Rattle.ppu.proofs.access_sizes.Tie as tie
-use Rattle.ppu.proofs.access_sizes.Reads as reads
-use Rattle.ppu.proofs.access_sizes.Lts as lts
+use Rattle.refusals.proofs.Cases.{sizes-cases}
+use Rattle.refusals.proofs.access_sizes.Statement.{statement}
+use Rattle.refusals.proofs.access_sizes.Tie as tie
+use Rattle.refusals.proofs.access_sizes.Reads as reads
+use Rattle.refusals.proofs.access_sizes.Lts as lts
 
 -- src/lib.rt:115:9
 returns : tie.Need-returns

@@ -1,8 +1,8 @@
-use Rattle.ppu.proofs.Cases.{line-sizes-cases}
-use Rattle.ppu.proofs.line_sizes.Statement.{statement}
-use Rattle.ppu.proofs.line_sizes.Tie as tie
-use Rattle.ppu.proofs.line_sizes.Reads as reads
-use Rattle.ppu.proofs.line_sizes.Lts as lts
+use Rattle.refusals.proofs.Cases.{line-sizes-cases}
+use Rattle.refusals.proofs.line_sizes.Statement.{statement}
+use Rattle.refusals.proofs.line_sizes.Tie as tie
+use Rattle.refusals.proofs.line_sizes.Reads as reads
+use Rattle.refusals.proofs.line_sizes.Lts as lts
 
 -- src/lib.rt:157:9
 returns : tie.Need-returns

@@ -1,9 +1,9 @@
-use Rattle.ppu.proofs.Cases.{plain-cases}
+use Rattle.refusals.proofs.Cases.{plain-cases}
 use borrow.Author.Needs.{needs}
-use Rattle.ppu.proofs.plain_refusal.Statement.{statement}
-use Rattle.ppu.proofs.plain_refusal.Tie as tie
-use Rattle.ppu.proofs.plain_refusal.Reads as reads
-use Rattle.ppu.proofs.plain_refusal.Lts as lts
+use Rattle.refusals.proofs.plain_refusal.Statement.{statement}
+use Rattle.refusals.proofs.plain_refusal.Tie as tie
+use Rattle.refusals.proofs.plain_refusal.Reads as reads
+use Rattle.refusals.proofs.plain_refusal.Lts as lts
 use Rattle.unit.proofs.well_formed.Reads as well-formed-reads
 
 -- src/lib.rt:169:12

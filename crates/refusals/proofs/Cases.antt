@@ -1,0 +1,170 @@
+-- The ways of each function, for `search`.
+use Prim.Native.Nat.{ℕ, _+_, _*_, _%_, _<_, _≤_}
+use mathlib.Core.Path.{_≡_, ap, _∙_}
+use mathlib.Core.Bool.{Bool, true, false, cond}
+use mathlib.Core.List.{List}
+use native.Mathlib.Omega.{arith}
+use lib.Dec.{eqb}
+use lib.ListN.{length}
+use borrow.Author.Tests.{eq-eqb, ne-eqb, lt-ltb, le-ltb, lt-leb, le-leb}
+use Rattle.model.specs.declared.Board.{Board}
+use Rattle.model.specs.declared.Ppu.{Ppu}
+use Rattle.model.specs.declared.Answer.{Answer}
+use Rattle.model.specs.declared.Access.{Access}
+use Rattle.model.specs.Unit.{fresh, zeroUnit, isWellFormed, isDrawing}
+use Rattle.model.specs.Record.{unitOf, recordOf, bytesOk, recordOk}
+use Rattle.model.specs.Calls.{refusedAccess, unmade, loadCall, packed, savedBytes, accessSizes, dmaSizes, lineSizes, blockedRead, order, accessRefusal, plainRefusal}
+
+pub unmade-1 : (n : ℕ) (d : Board) (u : Ppu) (r : Access) → d ≡ zeroUnit .board → u ≡ fresh d → r ≡ refusedAccess n u → r ≡ unmade n
+unmade-1 n d u r e f g = g ∙ ap (refusedAccess n) (f ∙ ap fresh e)
+
+-- the number of a record's refusal; s: what is lent beside it has the right lengths
+module _ (s : Bool) (l : List ℕ) where
+  pub form-0 : s ≡ false → 2 ≡ cond s (loadCall l .answer .number) 2
+  form-0 z = rw z
+
+  pub form-1 : s ≡ true → (length l ≡ 16 → ⊥) → 2 ≡ cond s (loadCall l .answer .number) 2
+  unfolding loadCall
+  form-1 z p = rw (z, ne-eqb (length l) 16 p)
+
+  module _ (k : Bool) (z : s ≡ true) (n : length l ≡ 16) (e : k ≡ bytesOk l) where
+    pub form-2 : (w : Bool) (u : Ppu) → k ≡ true → u ≡ unitOf l → w ≡ isWellFormed u → w ≡ true → 0 ≡ cond s (loadCall l .answer .number) 2
+    unfolding loadCall recordOk
+    form-2 w u p f g q = rw (z, eq-eqb (length l) 16 n, ← e, p, ← f, ← g, q)
+
+    pub form-3 : (w : Bool) (u : Ppu) → k ≡ true → u ≡ unitOf l → w ≡ isWellFormed u → w ≡ false → 3 ≡ cond s (loadCall l .answer .number) 2
+    unfolding loadCall recordOk
+    form-3 w u p f g q = rw (z, eq-eqb (length l) 16 n, ← e, p, ← f, ← g, q)
+
+    pub form-4 : k ≡ false → 3 ≡ cond s (loadCall l .answer .number) 2
+    unfolding loadCall recordOk
+    form-4 p = rw (z, eq-eqb (length l) 16 n, ← e, p)
+
+pub ruleset form-cases = (form-0, form-1, form-2, form-3, form-4)
+
+-- lengths, and the numbers of refusals
+module _ (d : Board) (l r n o p : ℕ) where
+  pub sizes-1 : (l ≡ 4096 → ⊥) → false ≡ accessSizes d l r n o p
+  sizes-1 a = simp (ne-eqb _ _ a)
+
+  pub sizes-2 : l ≡ 4096 → (r ≡ 4096 → ⊥) → false ≡ accessSizes d l r n o p
+  sizes-2 a b = simp (eq-eqb _ _ a, ne-eqb _ _ b)
+
+  pub sizes-3 : l ≡ 4096 → r ≡ 4096 → (n ≡ 2048 → ⊥) → false ≡ accessSizes d l r n o p
+  sizes-3 a b c = simp (eq-eqb _ _ a, eq-eqb _ _ b, ne-eqb _ _ c)
+
+  pub sizes-4 : l ≡ 4096 → r ≡ 4096 → n ≡ 2048 → (o ≡ 256 → ⊥) → false ≡ accessSizes d l r n o p
+  sizes-4 a b c e = simp (eq-eqb _ _ a, eq-eqb _ _ b, eq-eqb _ _ c, ne-eqb _ _ e)
+
+  pub sizes-5 : l ≡ 4096 → r ≡ 4096 → n ≡ 2048 → o ≡ 256 → eqb p 32 ≡ accessSizes d l r n o p
+  sizes-5 a b c e = simp (eq-eqb _ _ a, eq-eqb _ _ b, eq-eqb _ _ c, eq-eqb _ _ e)
+
+pub ruleset sizes-cases = (sizes-1, sizes-2, sizes-3, sizes-4, sizes-5)
+
+module _ (o p : ℕ) where
+  pub dma-sizes-1 : (o ≡ 256 → ⊥) → false ≡ dmaSizes o p
+  dma-sizes-1 a = simp (ne-eqb _ _ a)
+
+  pub dma-sizes-2 : o ≡ 256 → eqb p 256 ≡ dmaSizes o p
+  dma-sizes-2 a = simp (eq-eqb _ _ a)
+
+pub ruleset dma-sizes-cases = (dma-sizes-1, dma-sizes-2)
+
+module _ (d : Board) (l r n o b : ℕ) where
+  pub line-sizes-1 : (l ≡ 4096 → ⊥) → false ≡ lineSizes d l r n o b
+  line-sizes-1 a = simp (ne-eqb _ _ a)
+
+  pub line-sizes-2 : l ≡ 4096 → (r ≡ 4096 → ⊥) → false ≡ lineSizes d l r n o b
+  line-sizes-2 a c = simp (eq-eqb _ _ a, ne-eqb _ _ c)
+
+  pub line-sizes-3 : l ≡ 4096 → r ≡ 4096 → (n ≡ 2048 → ⊥) → false ≡ lineSizes d l r n o b
+  line-sizes-3 a c e = simp (eq-eqb _ _ a, eq-eqb _ _ c, ne-eqb _ _ e)
+
+  pub line-sizes-4 : l ≡ 4096 → r ≡ 4096 → n ≡ 2048 → (o ≡ 256 → ⊥) → false ≡ lineSizes d l r n o b
+  line-sizes-4 a c e f = simp (eq-eqb _ _ a, eq-eqb _ _ c, eq-eqb _ _ e, ne-eqb _ _ f)
+
+  pub line-sizes-5 : l ≡ 4096 → r ≡ 4096 → n ≡ 2048 → o ≡ 256 → eqb b 256 ≡ lineSizes d l r n o b
+  line-sizes-5 a c e f = simp (eq-eqb _ _ a, eq-eqb _ _ c, eq-eqb _ _ e, eq-eqb _ _ f)
+
+pub ruleset line-sizes-cases = (line-sizes-1, line-sizes-2, line-sizes-3, line-sizes-4, line-sizes-5)
+
+module _ (s : Bool) (u : Ppu) (a : ℕ) (k w d : Bool) where
+  pub refusal-1 : s ≡ true → w ≡ isWellFormed u → w ≡ true → a < 8192 → 1 ≡ accessRefusal s u a k
+  unfolding accessRefusal order
+  refusal-1 x e y z = simp (x, ← e, y, lt-leb _ _ z)
+
+  pub refusal-2 : s ≡ true → w ≡ isWellFormed u → w ≡ true → 8192 ≤ a → 16384 ≤ a → 1 ≡ accessRefusal s u a k
+  unfolding accessRefusal order
+  refusal-2 x e y z z′ = simp (x, ← e, y, le-leb _ _ z, le-ltb _ _ z′)
+
+  pub refusal-3 : s ≡ true → w ≡ isWellFormed u → w ≡ true → 8192 ≤ a → a < 16384 → d ≡ isDrawing u → d ≡ true → k ≡ true → 4 ≡ accessRefusal s u a k
+  unfolding accessRefusal order
+  refusal-3 x e y z z′ f g h = simp (x, ← e, y, le-leb _ _ z, lt-ltb _ _ z′, ← f, g, h)
+
+  pub refusal-4 : s ≡ true → w ≡ isWellFormed u → w ≡ true → 8192 ≤ a → a < 16384 → d ≡ isDrawing u → d ≡ true → k ≡ false → 0 ≡ accessRefusal s u a k
+  unfolding accessRefusal order
+  refusal-4 x e y z z′ f g h = simp (x, ← e, y, le-leb _ _ z, lt-ltb _ _ z′, ← f, g, h)
+
+  pub refusal-5 : s ≡ true → w ≡ isWellFormed u → w ≡ true → 8192 ≤ a → a < 16384 → d ≡ isDrawing u → d ≡ false → 0 ≡ accessRefusal s u a k
+  unfolding accessRefusal order
+  refusal-5 x e y z z′ f g = simp (x, ← e, y, le-leb _ _ z, lt-ltb _ _ z′, ← f, g)
+
+  pub refusal-6 : s ≡ true → w ≡ isWellFormed u → w ≡ false → 3 ≡ accessRefusal s u a k
+  unfolding accessRefusal order
+  refusal-6 x e y = simp (x, ← e, y)
+
+module _ (s : Bool) (u : Ppu) (a : ℕ) (k : Bool) where
+  pub refusal-7 : s ≡ false → 2 ≡ accessRefusal s u a k
+  unfolding accessRefusal order
+  refusal-7 x = simp x
+
+pub ruleset refusal-cases = (refusal-1, refusal-2, refusal-3, refusal-4, refusal-5, refusal-6, refusal-7)
+
+module _ (s : Bool) (u : Ppu) where
+  pub plain-1 : (w : Bool) → s ≡ true → w ≡ isWellFormed u → w ≡ true → 0 ≡ plainRefusal s u
+  unfolding plainRefusal order
+  plain-1 w x e y = simp (x, ← e, y)
+
+  pub plain-2 : (w : Bool) → s ≡ true → w ≡ isWellFormed u → w ≡ false → 3 ≡ plainRefusal s u
+  unfolding plainRefusal order
+  plain-2 w x e y = simp (x, ← e, y)
+
+  pub plain-3 : s ≡ false → 2 ≡ plainRefusal s u
+  unfolding plainRefusal order
+  plain-3 x = simp x
+
+pub ruleset plain-cases = (plain-1, plain-2, plain-3)
+
+module _ (a : ℕ) where
+  pub blocked-1 : a % 8 ≡ 4 → true ≡ blockedRead a
+  blocked-1 p = simp (eq-eqb _ _ p)
+
+  pub blocked-2 : (a % 8 ≡ 4 → ⊥) → eqb (a % 8) 7 ≡ blockedRead a
+  blocked-2 p = simp (ne-eqb _ _ p)
+
+pub ruleset blocked-cases = (blocked-1, blocked-2)
+
+-- the packed answer, and the record after a call
+module _ (a : Answer) (r : ℕ) where
+  pub pack-1 : a .nmi ≡ true → r ≡ a .number + a .byte * 256 + a .lines * 4294967296 + 65536 → r ≡ packed a
+  pack-1 p e = rw p (omega (arith, e))
+
+  pub pack-2 : a .nmi ≡ false → r ≡ a .number + a .byte * 256 + a .lines * 4294967296 → r ≡ packed a
+  pack-2 p e = rw p (omega (arith, e))
+
+pub ruleset pack-cases = (pack-1, pack-2)
+
+module _ (x : Access) (l r : List ℕ) where
+  pub after-1 : length l ≡ 16 → x .answer .number ≡ 0 → r ≡ recordOf (x .unit) → r ≡ savedBytes x l
+  unfolding savedBytes
+  after-1 h z e = e ∙ rw (eq-eqb (length l) 16 h, eq-eqb (x .answer .number) 0 z)
+
+  pub after-2 : length l ≡ 16 → (x .answer .number ≡ 0 → ⊥) → r ≡ l → r ≡ savedBytes x l
+  unfolding savedBytes
+  after-2 h z e = e ∙ rw (eq-eqb (length l) 16 h, ne-eqb (x .answer .number) 0 z)
+
+  pub after-3 : (length l ≡ 16 → ⊥) → r ≡ l → r ≡ savedBytes x l
+  unfolding savedBytes
+  after-3 h e = e ∙ rw (ne-eqb (length l) 16 h)
+
+pub ruleset after-cases = (after-1, after-2, after-3)

@@ -1,0 +1,206 @@
+// What the public calls share: the numbers of their refusals, and what an exported call leaves of its answer. Inner functions.
+// zero_board, unmade; lengths: access_sizes, dma_sizes, line_sizes; refusals: record_refusal, access_refusal, plain_refusal, blocked_read;
+// the record and the packed answer: finish. Within: pack, save_after.
+ghost use mathlib.Core.Path.{_≡_};
+ghost use mathlib.Core.Bool.{cond};
+ghost use Rattle.model.specs.Unit.{zeroUnit};
+ghost use Rattle.model.specs.Calls.{
+  unmade as unmadeOf,
+  loadCall,
+  packed,
+  savedBytes,
+  accessSizes,
+  dmaSizes,
+  lineSizes,
+  accessRefusal,
+  plainRefusal,
+  blockedRead,
+};
+use model::Access;
+use model::Answer;
+use model::Board;
+use model::Ppu;
+use model::Wiring;
+
+// The board of the all-zero unit.
+pub fn zero_board() -> Board
+    ensures { λ r. ⌜ r ≡ zeroUnit .board ⌝ }
+{
+    Board {
+        wiring: Wiring::Horizontal,
+        writable: false,
+    }
+}
+
+// A refused making hands back the all-zero unit.
+pub fn unmade(number: u8) -> Access
+    ensures { λ r. ⌜ r ≡ unmadeOf number ⌝ }
+{
+    let board = zero_board();
+    let u = record::fresh(board);
+    unit::refused(number, u)
+}
+
+// The lengths of what an access is lent.
+pub fn access_sizes(
+    board: Board,
+    left: usize,
+    right: usize,
+    nametables: usize,
+    oam: usize,
+    palette: usize,
+) -> bool
+    ensures { λ r. ⌜ r ≡ accessSizes board left right nametables oam palette ⌝ }
+{
+    if left != 4096 {
+        return false;
+    }
+    if right != 4096 {
+        return false;
+    }
+    if nametables != 2048 {
+        return false;
+    }
+    if oam != 256 {
+        return false;
+    }
+    palette == 32
+}
+
+// The lengths of what sprite DMA is lent.
+pub fn dma_sizes(oam: usize, page: usize) -> bool
+    ensures { λ r. ⌜ r ≡ dmaSizes oam page ⌝ }
+{
+    if oam != 256 {
+        return false;
+    }
+    page == 256
+}
+
+// The lengths of what a line or a run is lent.
+pub fn line_sizes(
+    board: Board,
+    left: usize,
+    right: usize,
+    nametables: usize,
+    oam: usize,
+    line: usize,
+) -> bool
+    ensures { λ r. ⌜ r ≡ lineSizes board left right nametables oam line ⌝ }
+{
+    if left != 4096 {
+        return false;
+    }
+    if right != 4096 {
+        return false;
+    }
+    if nametables != 2048 {
+        return false;
+    }
+    if oam != 256 {
+        return false;
+    }
+    line == 256
+}
+
+// The number of the refusal of a record, 0 where there is none. `sized`: what is lent beside it has the right lengths.
+pub fn record_refusal(sized: bool, saved: &[u8]) -> u8
+    ensures { λ r. ⌜ r ≡ cond sized (loadCall (now (saved .entry)) .answer .number) 2 ⌝ }
+{
+    if sized {
+        if saved.len() != 16 {
+            return 2;
+        }
+        if record::bytes_ok(saved) {
+            let u = record::read_unit(saved);
+            if unit::well_formed(u) {
+                return 0;
+            }
+            return 3;
+        }
+        return 3;
+    }
+    2
+}
+
+// The number of an access's refusal, 0 where there is none. `blocked`: refused while drawing.
+pub fn access_refusal(sized: bool, u: Ppu, address: u16, blocked: bool) -> u8
+    ensures { λ r. ⌜ r ≡ accessRefusal sized u address blocked ⌝ }
+{
+    if sized {
+        if unit::well_formed(u) {
+            if address < 8192 {
+                return 1;
+            }
+            if address >= 16384 {
+                return 1;
+            }
+            if unit::drawing(u) {
+                if blocked {
+                    return 4;
+                }
+                return 0;
+            }
+            return 0;
+        }
+        return 3;
+    }
+    2
+}
+
+// The number of the refusal of a call that takes no address.
+pub fn plain_refusal(sized: bool, u: Ppu) -> u8
+    ensures { λ r. ⌜ r ≡ plainRefusal sized u ⌝ }
+{
+    if sized {
+        if unit::well_formed(u) {
+            return 0;
+        }
+        return 3;
+    }
+    2
+}
+
+// A read of this address's port is refused while drawing: port 4 or 7.
+pub fn blocked_read(address: u16) -> bool
+    ensures { λ r. ⌜ r ≡ blockedRead address ⌝ }
+{
+    let port = address % 8;
+    if port == 4 {
+        return true;
+    }
+    port == 7
+}
+
+// Bits 0-7 number, 8-15 byte, 16 NMI level, 32-63 line count.
+fn pack(a: Answer) -> u64
+    ensures { λ r. ⌜ r ≡ packed a ⌝ }
+{
+    let low = a.number as u64 + a.byte as u64 * 256 + a.lines as u64 * 4294967296;
+    if a.nmi {
+        return low + 65536;
+    }
+    low
+}
+
+// The record after a call: the next unit's where the call is done.
+fn save_after(a: Access, saved: &mut [u8])
+    ensures { λ r. ⌜ now (saved .exit) ≡ savedBytes a (now (saved .entry)) ⌝ }
+{
+    if saved.len() == 16 {
+        let answer = a.answer;
+        if answer.number == 0 {
+            let u = a.unit;
+            record::put(u, saved);
+        }
+    }
+}
+
+// What an exported call does last: the record, and the packed answer.
+pub fn finish(a: Access, saved: &mut [u8]) -> u64
+    ensures { λ r. ⌜ (r ≡ packed (a .answer)) × (now (saved .exit) ≡ savedBytes a (now (saved .entry))) ⌝ }
+{
+    save_after(a, saved);
+    let answer = a.answer;
+    pack(answer)
+}
