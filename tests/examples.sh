@@ -83,7 +83,7 @@ compile() {
     local name=$1 compiler=$2 example=$3 packages=$4
     # the flags and the packages are words
     # shellcheck disable=SC2046,SC2086
-    "$compiler" -std=c99 -pedantic -Wall -Wextra -Werror "${@:5}" "examples/$example.c" $(pkg-config --cflags --libs $packages) -o "$out/$example-$name" ||
+    "$compiler" -std=c99 -pedantic -Wall -Wextra -Werror -O2 "${@:5}" "examples/$example.c" $(pkg-config --cflags --libs $packages) -o "$out/$example-$name" ||
         fail "$compiler on examples/$example.c"
 }
 
