@@ -1,11 +1,11 @@
 -- What each function comes to, from what its calls and tests say: laws over plain variables.
-use Prim.Native.Nat.{ℕ, _+_, _-_, _*_, _/_, _%_, _<_}
-use mathlib.Core.Path.{_≡_, _∙_}
+use Prim.Native.Nat.{ℕ, zero, suc, _+_, _-_, _*_, _/_, _%_, _<_}
+use mathlib.Core.Path.{_≡_, refl, _∙_}
 use mathlib.Core.Bool.{Bool, true, false, cond, _&&_, and-false}
 use mathlib.Core.List.{List, _++_}
 use native.Mathlib.Omega.{arith}
 use borrow.Author.Tests.{eq-eqb, ne-eqb, lt-ltb}
-use lib.Dec.{ltb}
+use lib.Dec.{eqb, ltb}
 use lib.ListN.{length, getD, set, drop}
 use Rattle.model.specs.Unit.{bit}
 use Rattle.model.specs.Line.{tab, merged}
@@ -32,14 +32,18 @@ over-opaque old new h = rw (ne-eqb old 0 h)
 
 pub ruleset over-cases = (over-empty, over-opaque)
 
--- merge_one: no sprite; no background; behind; in front
+-- merge_one: no background; no sprite; behind; in front
+pub merge-alone : (b s r : ℕ) → b ≡ 0 → r ≡ s % 32 → r ≡ merged b s
+unfolding merged
+merge-alone b s r e d = rw (e, and-false (bit 32 s)) (d ∙ none s)
+  where
+    none : (s : ℕ) → s % 32 ≡ cond (eqb s 0) 0 (s % 32)
+    none zero = refl
+    none (suc s) = rw (ne-eqb (suc s) 0 (λ e. omega arith))
+
 pub merge-none : (b s : ℕ) → s ≡ 0 → b ≡ merged b s
 unfolding merged
 merge-none b s e = rw (eq-eqb s 0 e)
-
-pub merge-alone : (b s r : ℕ) → (s ≡ 0 → ⊥) → b ≡ 0 → r ≡ s % 32 → r ≡ merged b s
-unfolding merged
-merge-alone b s r h e d = rw (ne-eqb s 0 h, eq-eqb b 0 e, and-false (bit 32 s)) d
 
 pub merge-behind : (b s : ℕ) (behind : Bool) → (s ≡ 0 → ⊥) → (b ≡ 0 → ⊥) → behind ≡ bit 32 s → behind ≡ true → b ≡ merged b s
 unfolding merged
@@ -49,7 +53,7 @@ pub merge-front : (b s r : ℕ) (behind : Bool) → (s ≡ 0 → ⊥) → behind
 unfolding merged
 merge-front b s r behind h e d q = rw (ne-eqb s 0 h, ← e, d) q
 
-pub ruleset merge-cases = (merge-none, merge-alone, merge-behind, merge-front)
+pub ruleset merge-cases = (merge-alone, merge-none, merge-behind, merge-front)
 
 -- merge: one column more
 pub merge-more : (l s l′ : List ℕ) (p r : ℕ) → length l ≡ 256 → p < 256 → l′ ≡ tab (λ (k : ℕ). merged (getD l k 0) (getD s k 0)) p ++ drop p l → r ≡ merged (getD l′ p 0) (getD s p 0)

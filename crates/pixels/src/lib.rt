@@ -138,11 +138,11 @@ pub fn clear(row: &mut [u8], n: usize)
 fn merge_one(b: u8, s: u8) -> u8
     ensures { λ r. ⌜ r ≡ merged b s ⌝ }
 {
-    if s == 0 {
-        return b;
-    }
     if b == 0 {
         return bits::low8(s, 5);
+    }
+    if s == 0 {
+        return b;
     }
     if bits::bit(s, 5) {
         return b;

@@ -7,11 +7,11 @@ use Rattle.pixels.proofs.merge_one.Lts as lts
 use Rattle.bits.proofs.bit.Reads as bit-reads
 use Rattle.bits.proofs.low8.Reads as low8-reads
 
-returns : tie.Need-returns
-returns c = search merge-cases
-
 low8-requires : tie.Need-low8-requires
 low8-requires c κs = search needs
+
+returns : tie.Need-returns
+returns c = search merge-cases
 
 returns-2 : tie.Need-returns-2
 returns-2 c = search merge-cases
@@ -31,4 +31,4 @@ returns-4 c = search merge-cases
 pub merge-one-spec : {M : Type 1} → statement M
 merge-one-spec =
     tie.close
-    (tie.spec returns low8-requires returns-2 bit-requires returns-3 low8-requires-2 returns-4)
+    (tie.spec low8-requires returns returns-2 bit-requires returns-3 low8-requires-2 returns-4)
