@@ -1,10 +1,10 @@
 -- What each function comes to, from what its calls and tests say: laws over plain variables.
-use Prim.Native.Nat.{ℕ, _+_, _-_, _*_, _%_, _<_}
+use Prim.Native.Nat.{ℕ, _+_, _-_, _*_, _%_, _<_, _≤_}
 use mathlib.Core.Path.{_≡_, _∙_}
 use mathlib.Core.Bool.{Bool, true, false, cond, _&&_, and-false}
 use mathlib.Core.List.{List, _++_}
 use native.Mathlib.Omega.{arith}
-use borrow.Author.Tests.{eq-eqb, ne-eqb, lt-ltb}
+use borrow.Author.Tests.{eq-eqb, ne-eqb, lt-ltb, le-ltb}
 use lib.Dec.{ltb}
 use lib.ListN.{length, getD, set, drop}
 use Rattle.model.specs.Unit.{bit}
@@ -76,3 +76,19 @@ sided-flipped attribute plain flipped b e d = rw (← e, d)
 
 pub sided-plain : (attribute plain flipped : ℕ) (b : Bool) → b ≡ bit 64 attribute → b ≡ false → plain ≡ cond (bit 64 attribute) flipped plain
 sided-plain attribute plain flipped b e d = rw (← e, d)
+
+-- later, sooner: by the test
+module _ (a b : ℕ) where
+  pub later-1 : a < b → b ≡ cond (ltb a b) b a
+  later-1 h = rw (lt-ltb a b h)
+
+  pub later-2 : b ≤ a → a ≡ cond (ltb a b) b a
+  later-2 h = rw (le-ltb a b h)
+
+  pub sooner-1 : a < b → a ≡ cond (ltb a b) a b
+  sooner-1 h = rw (lt-ltb a b h)
+
+  pub sooner-2 : b ≤ a → b ≡ cond (ltb a b) a b
+  sooner-2 h = rw (le-ltb a b h)
+
+pub ruleset column-cases = (later-1, later-2, sooner-1, sooner-2)

@@ -2,7 +2,8 @@
 // spread, spread_back, numbers: a byte's bits one to a byte; pixel numbers from colours.
 // put8, put_tile: eight pixels stored in a row; those of a background tile.
 // sprite_bytes, put_over: the eight pixels of a sprite's row; stored only where nothing opaque stands.
-// clear, merge, any_both: over a whole row: the left columns hidden, sprites over background, sprite 0 hit.
+// clear, merge: over a whole row: the left columns hidden, sprites over background.
+// meets: sprite 0 hit.
 ghost use mathlib.Core.Path.{_≡_};
 ghost use mathlib.Core.Bool.{cond, _&&_};
 ghost use Prim.Native.Nat.{ℕ, _+_, _-_, _*_, _/_, _%_, _<_, _≤_};
@@ -11,9 +12,9 @@ ghost use lib.ListN.{length, getD};
 ghost use Rattle.model.specs.Unit.{bit};
 ghost use Rattle.model.specs.Record.{bitByte};
 ghost use Rattle.model.specs.Background.{colourOf, numberOf};
-ghost use Rattle.model.specs.Line.{tab, merged, anyOf};
+ghost use Rattle.model.specs.Line.{tab, merged};
 ghost use Rattle.pixels.specs.Pack.{pack, byteOf, spreadOf, backOf, pixelsBy};
-ghost use Rattle.pixels.specs.Row.{storeTab, overOne, overTab};
+ghost use Rattle.pixels.specs.Row.{storeTab, overOne, overTab, placed, meetsOf};
 use model::Sprite;
 
 // 1 in each byte.
@@ -176,16 +177,30 @@ fn both(b: u8, s: u8) -> u8
     1
 }
 
-// Some column below 255 where both rows are opaque.
-pub fn any_both(b: &[u8], s: &[u8]) -> bool
-    requires { ⌜ (length (now b) ≡ 256) × (length (now s) ≡ 264) ⌝ }
-    ensures { λ r. ⌜ r ≡ anyOf (λ (p : ℕ). ltb 0 (getD (now (b .entry)) p 0) && ltb 0 (getD (now (s .entry)) p 0)) 255 ⌝ }
+// The greater of two columns, and the lesser.
+fn later(a: usize, b: usize) -> usize
+    ensures { λ r. ⌜ (a ≤ r) × (b ≤ r) × (r ≡ cond (ltb a b) b a) ⌝ }
 {
-    let mut n = 0u8;
-    let mut p = 0;
-    while p < 255 {
-        n += both(b[p], s[p]);
+    if a < b { b } else { a }
+}
+
+fn sooner(a: usize, b: usize) -> usize
+    ensures { λ r. ⌜ (r ≤ a) × (r ≤ b) × (r ≡ cond (ltb a b) a b) ⌝ }
+{
+    if a < b { a } else { b }
+}
+
+// Eight pixels from column at on, hidden in the first `skip` columns: some column below 255 where the line is opaque too.
+pub fn meets(line: &[u8], at: usize, n: u64, skip: usize) -> bool
+    requires { ⌜ (length (now line) ≡ 256) × (at < 256) × (skip ≤ 8) ⌝ }
+    ensures { λ r. ⌜ r ≡ meetsOf (now (line .entry)) (placed (byteOf n) at) skip ⌝ }
+{
+    let end = sooner(at + 8, 255);
+    let mut found = 0u8;
+    let mut p = later(at, skip);
+    while p < end {
+        found += both(line[p], byte(n, p - at));
         p += 1;
     }
-    0 < n
+    0 < found
 }

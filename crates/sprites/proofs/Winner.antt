@@ -1,5 +1,5 @@
 -- The sprites that a line shows, in the choice's list and in the row; put one after the other, the first opaque pixel of each column stays.
-use Prim.Native.Nat.{ℕ, suc, _-_, _<_, _≤_}
+use Prim.Native.Nat.{ℕ, suc, _+_, _-_, _*_, _/_, _%_, _<_, _≤_}
 use mathlib.Core.Path.{_≡_, refl, ap, sym, _∙_}
 use mathlib.Core.Bool.{Bool, true, false, cond, and-false}
 use mathlib.Core.Logic.{⊎-elim}
@@ -10,9 +10,14 @@ use lib.Dec.{eqb, ltb}
 use lib.ListN.{length, getD, take}
 use lib.Seq.{take-all, getD-take, length-take-le}
 use Rattle.model.specs.declared.Sprite.{Sprite}
+use Rattle.model.specs.Unit.{bit}
+use Rattle.model.specs.Background.{colourOf, numberOf}
 use Rattle.model.specs.Sprites.{covers, placesOf, countOf, fetched, chosen, shade, winner, spriteOn, spriteZeroOn}
 use Rattle.model.proofs.Scroll.{lt-or-ge}
-use Rattle.pixels.proofs.Over.{over-none}
+use Rattle.pixels.specs.Pack.{pack, byteOf}
+use Rattle.pixels.specs.Row.{placed, meetsOf}
+use Rattle.pixels.proofs.Over.{over-none, placed-shade}
+use Rattle.pixels.proofs.Hit.{meets-none, meets-cong}
 use Rattle.sprites.specs.Row.{shownOn}
 use Rattle.sprites.proofs.Places.{places-at, length-places, count-first}
 
@@ -93,21 +98,29 @@ module _ (c n count : ℕ) (o list : List ℕ) (few : count ≤ 8) (long : lengt
       (λ (none : n ≤ 0). let d : n ≡ 0 = omega arith in rw d)
       (lt-or-ge 0 n)
 
--- ---- sprite 0
-module _ (c n : ℕ) (left right o : List ℕ) where
-  pub zero-1 : n ≡ 0 → (row : List ℕ) → ((p : ℕ) → getD row p 0 ≡ 0) → (p : ℕ) → getD row p 0 ≡ spriteZeroOn c left right o n p
-  unfolding spriteZeroOn
-  zero-1 z row e p = e p ∙ rw z
+-- ---- sprite 0's hit: none on line 0, none where it does not cover the line, or by its eight pixels
+module _ (c n skip : ℕ) (left right o line : List ℕ) where
+  abbrev hits : Bool
+  hits = meetsOf line (spriteZeroOn c left right o n) skip
 
-module _ (c n m : ℕ) (left right o : List ℕ) (b : Bool) (u : n ≡ 0 → ⊥) (d : m ≡ n - 1) (e : b ≡ covers c o m 0) where
-  pub zero-2 : b ≡ false → (row : List ℕ) → ((p : ℕ) → getD row p 0 ≡ 0) → (p : ℕ) → getD row p 0 ≡ spriteZeroOn c left right o n p
+  pub zero-1 : n ≡ 0 → false ≡ hits
   unfolding spriteZeroOn
-  zero-2 t row z p = z p ∙ rw (lt-ltb 0 n (omega arith), ← d, sym e ∙ t)
+  zero-1 z = meets-none line (spriteZeroOn c left right o n) skip (λ p. rw z)
 
-  pub zero-3 : b ≡ true → (s : Sprite) (row row′ : List ℕ) → length row ≡ 264 → ((p : ℕ) → getD row p 0 ≡ 0) → s ≡ fetched c left right o m 0
-      → ((p : ℕ) → getD row′ p 0 ≡ cond (eqb (getD row p 0) 0) (shade s p) (getD row p 0)) → (p : ℕ) → getD row′ p 0 ≡ spriteZeroOn c left right o n p
-  unfolding spriteZeroOn
-  zero-3 t s row row′ h z f g p = g p ∙ rw (z p, f, lt-ltb 0 n (omega arith), ← d, sym e ∙ t)
+  module _ (m : ℕ) (b : Bool) (u : n ≡ 0 → ⊥) (d : m ≡ n - 1) (e : b ≡ covers c o m 0) where
+    pub zero-2 : b ≡ false → false ≡ hits
+    unfolding spriteZeroOn
+    zero-2 t = meets-none line (spriteZeroOn c left right o n) skip (λ p. rw (lt-ltb 0 n (omega arith), ← d, sym e ∙ t))
+
+    zero-shade : b ≡ true → (p : ℕ) → shade (fetched c left right o m 0) p ≡ spriteZeroOn c left right o n p
+    unfolding spriteZeroOn
+    zero-shade t p = rw (lt-ltb 0 n (omega arith), ← d, sym e ∙ t)
+
+    pub zero-3 : b ≡ true → (s : Sprite) (at w : ℕ) (r : Bool) → s ≡ fetched c left right o m 0 → at ≡ s .x
+        → w ≡ pack (λ (j : ℕ). numberOf (4 + s .attribute % 4 + s .attribute / 32 % 2 * 8) (colourOf (s .low) (s .high) (cond (bit 64 (s .attribute)) j (7 - j)))) 8
+        → r ≡ meetsOf line (placed (byteOf w) at) skip → r ≡ hits
+    zero-3 t s at w r f x g h =
+        h ∙ meets-cong line (placed (byteOf w) at) (spriteZeroOn c left right o n) skip (λ p. rw (x, placed-shade s w g p, f) (zero-shade t p))
 
 pub zero-covers : (c : ℕ) (o : List ℕ) (m : ℕ) (b : Bool) → b ≡ covers c o m 0 → b ≡ true → covers c o m 0 ≡ true
 zero-covers c o m b e t = sym e ∙ t

@@ -1,7 +1,7 @@
 // The sprites of a line: which it shows, and their pixels. Inner functions, not public calls.
 // choose: the eight that a line shows, and overflow. Within: height, distance, distances, near_one, count, list_places, at_most_eight.
 // fetch: a sprite's two pattern bytes on a line. Within: row_of, second_table, tile_of, pattern_at, pattern_byte.
-// put_sprite, sprite_row, sprite_zero_row: a sprite over pixels, the winning pixel of every column, sprite 0. Within: covering, line_before,
+// put_sprite, sprite_row, zero_meets: a sprite over pixels, the winning pixel of every column, sprite 0's hit. Within: covering, line_before,
 // listed, fill_row, draw_row. Pixels have 264 columns, so that a sprite at X = 255 has room; a line shows the first 256.
 ghost use mathlib.Core.Path.{_≡_};
 ghost use mathlib.Core.Bool.{cond, true};
@@ -10,6 +10,7 @@ ghost use Prim.Native.Nat.{ℕ, _+_, _-_, _<_, _≤_};
 ghost use lib.Dec.{eqb, ltb};
 ghost use lib.ListN.{length, getD, take, drop};
 ghost use Rattle.model.specs.Line.{tab};
+ghost use Rattle.pixels.specs.Row.{meetsOf};
 ghost use Rattle.model.specs.Address.{tableOf};
 ghost use Rattle.model.specs.Sprites.{height as heightOf, covers, placesOf, countOf, overflows};
 ghost use Rattle.model.specs.Sprites.{rowOf, secondTable, tileOf, patternAt, fetched, shade, winner, spriteOn, spriteZeroOn};
@@ -291,17 +292,26 @@ pub fn sprite_row(
     draw_row(&row, count, pixels);
 }
 
-// Sprite 0 by itself on line n.
-pub fn sprite_zero_row(control: u8, n: u8, left: &[u8], right: &[u8], oam: &[u8], row: &mut [u8])
-    requires { ⌜ (length (now left) ≡ 4096) × (length (now right) ≡ 4096) × (length (now oam) ≡ 256) × (length (now row) ≡ 264) × ((p : ℕ) → getD (now row) p 0 ≡ 0) ⌝ }
-    ensures { λ _. ⌜ ((p : ℕ) → getD (now (row .exit)) p 0 ≡ spriteZeroOn control (now (left .entry)) (now (right .entry)) (now (oam .entry)) n p)
-        × (length (now (row .exit)) ≡ 264) ⌝ }
+// Sprite 0, hidden in the first `skip` columns: on line n some column below 255 where it is opaque and so is the line.
+pub fn zero_meets(
+    control: u8,
+    n: u8,
+    skip: usize,
+    left: &[u8],
+    right: &[u8],
+    oam: &[u8],
+    line: &[u8],
+) -> bool
+    requires { ⌜ (length (now left) ≡ 4096) × (length (now right) ≡ 4096) × (length (now oam) ≡ 256) × (length (now line) ≡ 256) × (skip ≤ 8) ⌝ }
+    ensures { λ r. ⌜ r ≡ meetsOf (now (line .entry)) (spriteZeroOn control (now (left .entry)) (now (right .entry)) (now (oam .entry)) n) skip ⌝ }
 {
     if n == 0 {
-        return;
+        return false;
     }
     let above = line_before(n);
     if covering(control, above, 0, oam) {
-        put_sprite(fetch(control, above, 0, left, right, oam), row);
+        let s = fetch(control, above, 0, left, right, oam);
+        return pixels::meets(line, bits::wide(s.x), pixels::sprite_bytes(s), skip);
     }
+    false
 }
