@@ -51,14 +51,15 @@ any-past f m n le h =
     let e : n ≡ (n - m) + m = omega arith in
     rw e (any-rest f m (n - m) (λ k ge lt. h k ge (omega arith)))
 
+-- a pixel that is not opaque, hidden or not
+pub off : (hidden : Bool) (v : ℕ) → v ≡ 0 → cond hidden 0 v ≡ 0
+off true v e = refl
+off false v e = e
+
 -- pixels that meet no line, and pixels that agree
 pub meets-none : (b : List ℕ) (g : ℕ → ℕ) (k : ℕ) → ((p : ℕ) → g p ≡ 0) → false ≡ meetsOf b g k
 unfolding meetsOf
-meets-none b g k h = any-none (λ (p : ℕ). getD b p 0) (λ (p : ℕ). cond (ltb p k) 0 (g p)) 255 (λ p. hid p (ltb p k))
-  where
-    hid : (p : ℕ) (c : Bool) → cond c 0 (g p) ≡ 0
-    hid p true = refl
-    hid p false = h p
+meets-none b g k h = any-none (λ (p : ℕ). getD b p 0) (λ (p : ℕ). cond (ltb p k) 0 (g p)) 255 (λ p. off (ltb p k) (g p) (h p))
 
 pub meets-cong : (b : List ℕ) (f g : ℕ → ℕ) (k : ℕ) → ((p : ℕ) → f p ≡ g p) → meetsOf b f k ≡ meetsOf b g k
 unfolding meetsOf
@@ -68,10 +69,6 @@ meets-cong b f g k h = any-cong _ _ 255 (λ p lt. rw (h p))
 module _ (b : List ℕ) (g : ℕ → ℕ) (x skip : ℕ) where
   abbrev meet : ℕ → Bool
   meet p = ltb 0 (getD b p 0) && ltb 0 (cond (ltb p skip) 0 (placed g x p))
-
-  off : (hidden : Bool) (v : ℕ) → v ≡ 0 → cond hidden 0 v ≡ 0
-  off true v e = refl
-  off false v e = e
 
   no-meet : (p : ℕ) → cond (ltb p skip) 0 (placed g x p) ≡ 0 → meet p ≡ false
   no-meet p e = rw (e, and-false (ltb 0 (getD b p 0)))

@@ -99,7 +99,7 @@ fn overlay(
     let mut row = [0u8; 264];
     sprites::sprite_row(u.control, n, count, left, right, oam, list, &mut row);
     pixels::clear(&mut row, skip);
-    pixels::merge(line, &row);
+    sprites::merge_row(line, &row, count, oam, list);
 }
 
 // The chosen sprites over the line, with mask bit 4; whether sprite 0 hits.

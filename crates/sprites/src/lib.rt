@@ -1,20 +1,20 @@
 // The sprites of a line: which it shows, and their pixels. Inner functions, not public calls.
 // choose: the eight that a line shows, and overflow. Within: height, distance, distances, near_one, count, list_places, at_most_eight.
 // fetch: a sprite's two pattern bytes on a line. Within: row_of, second_table, tile_of, pattern_at, pattern_byte.
-// put_sprite, sprite_row, zero_meets: a sprite over pixels, the winning pixel of every column, sprite 0's hit. Within: covering, line_before,
-// listed, fill_row, draw_row. Pixels have 264 columns, so that a sprite at X = 255 has room; a line shows the first 256.
+// put_sprite, sprite_row: a sprite over pixels, the winning pixel of every column. Within: line_before, listed, fill_row, draw_row.
+// merge_row, zero_meets: those pixels over a line, sprite 0's hit. Within: covering. Pixels have 264 columns, so that a sprite at X = 255 has room; a line shows the first 256.
 ghost use mathlib.Core.Path.{_≡_};
 ghost use mathlib.Core.Bool.{cond, true};
 ghost use mathlib.Core.List.{[], _++_};
 ghost use Prim.Native.Nat.{ℕ, _+_, _-_, _<_, _≤_};
 ghost use lib.Dec.{eqb, ltb};
 ghost use lib.ListN.{length, getD, take, drop};
-ghost use Rattle.model.specs.Line.{tab};
+ghost use Rattle.model.specs.Line.{tab, merged};
 ghost use Rattle.pixels.specs.Row.{meetsOf};
 ghost use Rattle.model.specs.Address.{tableOf};
 ghost use Rattle.model.specs.Sprites.{height as heightOf, covers, placesOf, countOf, overflows};
 ghost use Rattle.model.specs.Sprites.{rowOf, secondTable, tileOf, patternAt, fetched, shade, winner, spriteOn, spriteZeroOn};
-ghost use Rattle.sprites.specs.Row.{shownOn};
+ghost use Rattle.sprites.specs.Row.{shownOn, Beside};
 ghost use Rattle.sprites.specs.Distance.{distanceOf, distanceAt, isFrom, near};
 use model::Sprite;
 
@@ -290,6 +290,20 @@ pub fn sprite_row(
     }; 8];
     fill_row(&mut row, control, n, count, left, right, oam, list);
     draw_row(&row, count, pixels);
+}
+
+// The sprites' row over a line, in the eight columns of each of the list's first `count` sprites: elsewhere the row has none.
+pub fn merge_row(line: &mut [u8], row: &[u8], count: usize, oam: &[u8], list: &[u8])
+    requires { ⌜ (length (now line) ≡ 256) × (length (now row) ≡ 264) × (length (now oam) ≡ 256) × (length (now list) ≡ 65) × (count ≤ 8) ⌝ }
+    requires { ⌜ ((k : ℕ) → k < count → getD (now list) k 0 < 64) × ((p : ℕ) → Beside (now oam) (now list) count p → getD (now row) p 0 ≡ 0) ⌝ }
+    ensures { λ _. ⌜ now (line .exit) ≡ tab (λ (p : ℕ). merged (getD (now (line .entry)) p 0) (getD (now (row .entry)) p 0)) 256 ⌝ }
+{
+    let mut i = 0;
+    while i < count {
+        let x = bits::wide(oam[4 * bits::wide(list[i]) + 3]);
+        pixels::merge8(line, row, pixels::sooner(x, 248));
+        i += 1;
+    }
 }
 
 // Sprite 0, hidden in the first `skip` columns: on line n some column below 255 where it is opaque and so is the line.
