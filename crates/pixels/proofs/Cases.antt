@@ -1,21 +1,19 @@
 -- What each function comes to, from what its calls and tests say: laws over plain variables.
-use Prim.Native.Nat.{ℕ, zero, suc, _+_, _-_, _*_, _/_, _%_, _<_}
-use mathlib.Core.Path.{_≡_, refl, _∙_}
-use mathlib.Core.Bool.{Bool, true, false, cond, _&&_, and-false}
-use mathlib.Core.List.{List, _++_}
+use Prim.Native.Nat.{ℕ, _+_, _-_, _*_, _/_, _%_, _<_, _≤_}
+use mathlib.Core.Path.{_≡_, _∙_}
+use mathlib.Core.Bool.{Bool, true, false, cond, not, _&&_, and-false, and-true}
+use mathlib.Core.List.{List}
 use native.Mathlib.Omega.{arith}
-use borrow.Author.Tests.{eq-eqb, ne-eqb, lt-ltb}
+use borrow.Author.Tests.{eq-eqb, ne-eqb, lt-ltb, le-ltb}
 use lib.Dec.{eqb, ltb}
-use lib.ListN.{length, getD, set, drop}
 use Rattle.model.specs.Unit.{bit}
-use Rattle.model.specs.Line.{tab, merged}
+use Rattle.model.specs.Line.{merged}
 use Rattle.model.specs.Record.{bitByte}
 use Rattle.model.specs.Background.{colourOf, numberOf}
 use Rattle.pixels.specs.Pack.{pack, byteOf, spreadOf, backOf, pixelsBy}
 use Rattle.pixels.specs.Row.{storeTab, overOne}
 use Rattle.pixels.proofs.Colours.{sprite-pack, tile-bytes}
-use Rattle.pixels.proofs.Store.{store-cong, rest-at}
-use Rattle.model.proofs.Tab.{tab-more}
+use Rattle.pixels.proofs.Store.{store-cong}
 
 -- put_tile
 pub tile-1 : (low high palette at l h q n : ℕ) (m m′ : List ℕ) → palette < 4 → l ≡ spreadOf low → h ≡ spreadOf high → q ≡ palette → n ≡ pixelsBy l h q → m′ ≡ storeTab (byteOf n) at 8 m
@@ -32,36 +30,37 @@ over-opaque old new h = rw (ne-eqb old 0 h)
 
 pub ruleset over-cases = (over-empty, over-opaque)
 
--- merge_one: no background; no sprite; behind; in front
-pub merge-alone : (b s r : ℕ) → b ≡ 0 → r ≡ s % 32 → r ≡ merged b s
-unfolding merged
-merge-alone b s r e d = rw (e, and-false (bit 32 s)) (d ∙ none s)
-  where
-    none : (s : ℕ) → s % 32 ≡ cond (eqb s 0) 0 (s % 32)
-    none zero = refl
-    none (suc s) = rw (ne-eqb (suc s) 0 (λ e. omega arith))
+-- bare: no background, or some
+pub bare-1 : (b s r : ℕ) → b ≡ 0 → r ≡ s % 32 → r ≡ cond (eqb b 0) (s % 32) s
+bare-1 b s r e d = rw (eq-eqb b 0 e) d
 
+pub bare-2 : (b s : ℕ) → (b ≡ 0 → ⊥) → s ≡ cond (eqb b 0) (s % 32) s
+bare-2 b s h = rw (ne-eqb b 0 h)
+
+-- in_front: behind, or not
+pub behind : (b s : ℕ) (t : Bool) → t ≡ bit 32 s → t ≡ true → b ≡ cond (bit 32 s) b (s % 32)
+behind b s t e d = rw (← e, d)
+
+pub before : (b s r : ℕ) (t : Bool) → t ≡ bit 32 s → t ≡ false → r ≡ s % 32 → r ≡ cond (bit 32 s) b (s % 32)
+before b s r t e d q = rw (← e, d) q
+
+-- merge_one: no sprite, or one
 pub merge-none : (b s : ℕ) → s ≡ 0 → b ≡ merged b s
 unfolding merged
 merge-none b s e = rw (eq-eqb s 0 e)
 
-pub merge-behind : (b s : ℕ) (behind : Bool) → (s ≡ 0 → ⊥) → (b ≡ 0 → ⊥) → behind ≡ bit 32 s → behind ≡ true → b ≡ merged b s
+pub merge-some : (b s t r : ℕ) → (s ≡ 0 → ⊥) → t ≡ cond (eqb b 0) (s % 32) s → r ≡ cond (bit 32 t) b (t % 32) → r ≡ merged b s
 unfolding merged
-merge-behind b s behind h k e d = rw (ne-eqb s 0 h, ne-eqb b 0 k, ← e, d)
+merge-some b s t r h e d = rw (ne-eqb s 0 h) (by-test (eqb b 0) (d ∙ rw e))
+  where
+    low : s % 32 / 32 % 2 ≡ 0
+    low = omega arith
 
-pub merge-front : (b s r : ℕ) (behind : Bool) → (s ≡ 0 → ⊥) → behind ≡ bit 32 s → behind ≡ false → r ≡ s % 32 → r ≡ merged b s
-unfolding merged
-merge-front b s r behind h e d q = rw (ne-eqb s 0 h, ← e, d) q
+    by-test : (z : Bool) → r ≡ cond (bit 32 (cond z (s % 32) s)) b (cond z (s % 32) s % 32) → r ≡ cond (bit 32 s && not z) b (s % 32)
+    by-test true k = let e : s % 32 % 32 ≡ s % 32 = omega arith in rw (and-false (bit 32 s)) (rw (low, e) at k)
+    by-test false k = rw (and-true (bit 32 s)) k
 
-pub ruleset merge-cases = (merge-alone, merge-none, merge-behind, merge-front)
-
--- merge: one column more
-pub merge-more : (l s l′ : List ℕ) (p r : ℕ) → length l ≡ 256 → p < 256 → l′ ≡ tab (λ (k : ℕ). merged (getD l k 0) (getD s k 0)) p ++ drop p l → r ≡ merged (getD l′ p 0) (getD s p 0)
-    → set l′ p r ≡ tab (λ (k : ℕ). merged (getD l k 0) (getD s k 0)) (p + 1) ++ drop (p + 1) l
-merge-more l s l′ p r len lt e d =
-    let h : p < length l = omega arith in
-    let own : getD l′ p 0 ≡ getD l p 0 = rest-at (λ (k : ℕ). merged (getD l k 0) (getD s k 0)) p l l′ h e in
-    tab-more (λ (k : ℕ). merged (getD l k 0) (getD s k 0)) p l l′ r h e (d ∙ rw own)
+pub ruleset merge-cases = (bare-1, bare-2, behind, before, merge-none, merge-some)
 
 -- both: no background; no sprite; both
 pub both-no-background : (b s : ℕ) → b ≡ 0 → 0 ≡ bitByte (ltb 0 b && ltb 0 s)
@@ -87,3 +86,19 @@ pub sprite-1 : (attribute low high l h c d q r : ℕ) → l ≡ cond (bit 64 att
     → c ≡ attribute % 4 → d ≡ attribute / 32 % 2 → q ≡ 4 + c + d * 8 → r ≡ pixelsBy l h q
     → r ≡ pack (λ (j : ℕ). numberOf (4 + attribute % 4 + attribute / 32 % 2 * 8) (colourOf low high (cond (bit 64 attribute) j (7 - j)))) 8
 sprite-1 attribute low high l h c d q r i j k m n e = e ∙ rw (i, j, n, k, m) (sprite-pack (bit 64 attribute) low high (4 + attribute % 4 + attribute / 32 % 2 * 8))
+
+-- later, sooner: by the test
+module _ (a b : ℕ) where
+  pub later-1 : a < b → b ≡ cond (ltb a b) b a
+  later-1 h = rw (lt-ltb a b h)
+
+  pub later-2 : b ≤ a → a ≡ cond (ltb a b) b a
+  later-2 h = rw (le-ltb a b h)
+
+  pub sooner-1 : a < b → a ≡ cond (ltb a b) a b
+  sooner-1 h = rw (lt-ltb a b h)
+
+  pub sooner-2 : b ≤ a → b ≡ cond (ltb a b) a b
+  sooner-2 h = rw (le-ltb a b h)
+
+pub ruleset column-cases = (later-1, later-2, sooner-1, sooner-2)

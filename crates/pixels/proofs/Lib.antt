@@ -4,4 +4,5 @@ pub mod Colours
 pub mod Store
 pub mod Over
 pub mod Hit
+pub mod Merge
 pub mod Cases

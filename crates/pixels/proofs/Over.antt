@@ -1,13 +1,13 @@
 -- Pixels stored only where 0 stands: what a row has at each column afterwards, and the same for a sprite.
 use Prim.Native.Nat.{ℕ, zero, suc, _+_, _-_, _*_, _/_, _%_, _<_, _≤_}
 use mathlib.Core.Path.{_≡_, refl, ap, sym, _∙_}
-use mathlib.Core.Bool.{Bool, true, false, cond, _&&_}
+use mathlib.Core.Bool.{Bool, true, false, cond}
 use mathlib.Core.Logic.{_⊎_, inl, inr, ⊎-elim}
 use mathlib.Core.List.{List}
 use native.Mathlib.Omega.{arith}
 use native.Mathlib.Numerals.{add-one}
 use borrow.Author.Tests.{ne-eqb, le-leb, lt-leb, lt-ltb, le-ltb}
-use lib.Dec.{eqb, ltb, leb}
+use lib.Dec.{eqb}
 use lib.ListN.{length, getD, set, length-set}
 use lib.Seq.{set-getD, getD-set-same, getD-set-other}
 use Rattle.model.specs.declared.Sprite.{Sprite}
@@ -16,14 +16,8 @@ use Rattle.model.specs.Background.{colourOf, numberOf}
 use Rattle.model.specs.Sprites.{shade}
 use Rattle.model.proofs.Scroll.{lt-or-ge}
 use Rattle.pixels.specs.Pack.{pack, byteOf}
-use Rattle.pixels.specs.Row.{overOne, overAt, overTab}
+use Rattle.pixels.specs.Row.{overOne, overAt, overTab, placed}
 use Rattle.pixels.proofs.Colours.{shade-bytes}
-
--- two functions that agree below n
-pub over-cong : (f g : ℕ → ℕ) (at n : ℕ) (l : List ℕ) → ((j : ℕ) → j < n → f j ≡ g j) → overTab f at n l ≡ overTab g at n l
-unfolding overTab
-over-cong f g at zero l h = refl
-over-cong f g at (suc n) l h = rw (over-cong f g at n l (λ j lt. h j (omega arith)), h n (omega arith))
 
 length-over : (l : List ℕ) (at v : ℕ) → length (overAt l at v) ≡ length l
 unfolding overAt
@@ -89,10 +83,6 @@ tab-in g at (suc n) l k h a b =
     ∙ ap (λ (o : ℕ). overOne o (g n)) (tab-out g at n l (at + n) (inr (omega arith)))))
     (lt-or-ge k (at + n))
 
--- what g has in the line's column p if its own column 0 is at x
-abbrev pub placed : (ℕ → ℕ) → ℕ → ℕ → ℕ
-placed g x p = cond (leb x p && ltb p (x + 8)) (g (p - x)) 0
-
 -- 0 over a pixel leaves it
 pub over-none : (v : ℕ) → overOne v 0 ≡ v
 over-none zero = refl
@@ -100,6 +90,7 @@ over-none (suc v) = rw (ne-eqb (suc v) 0 (λ e. omega arith))
 
 -- eight pixels over a row, at each column
 pub over-placed : (g : ℕ → ℕ) (x p : ℕ) (row : List ℕ) → x + 8 ≤ length row → getD (overTab g x 8 row) p 0 ≡ overOne (getD row p 0) (placed g x p)
+unfolding placed
 over-placed g x p row h =
     ⊎-elim
     (λ (lt : p < x). tab-out g x 8 row p (inl lt) ∙ sym (rw (lt-leb x p lt) (over-none (getD row p 0))))
@@ -110,16 +101,22 @@ over-placed g x p row h =
     (lt-or-ge p (x + 8)))
     (lt-or-ge p x)
 
--- a sprite's eight pixels over a row, at each column: `sprite_bytes`, then `put_over` at its X byte
-pub over-shade : (s : Sprite) (n p : ℕ) (row row′ : List ℕ) → s .x + 8 ≤ length row
-    → n ≡ pack (λ (j : ℕ). numberOf (4 + s .attribute % 4 + s .attribute / 32 % 2 * 8) (colourOf (s .low) (s .high) (cond (bit 64 (s .attribute)) j (7 - j)))) 8
-    → row′ ≡ overTab (byteOf n) (s .x) 8 row → getD row′ p 0 ≡ overOne (getD row p 0) (shade s p)
-unfolding shade
-over-shade s n p row row′ h e d =
-    rw (
-      d,
-      e,
-      over-cong _ (λ (j : ℕ). numberOf (4 + s .attribute % 4 + s .attribute / 32 % 2 * 8) (colourOf (s .low) (s .high) (cond (bit 64 (s .attribute)) j (7 - j)))) (s .x) 8 row
-          (λ j lt. shade-bytes (s .low) (s .high) (4 + s .attribute % 4 + s .attribute / 32 % 2 * 8) (bit 64 (s .attribute)) j (omega arith) lt),
-    )
-    (over-placed _ (s .x) p row h)
+-- a sprite's eight pixels from its X byte on: `sprite_bytes`
+module _ (s : Sprite) (n : ℕ) (e : n ≡ pack (λ (j : ℕ). numberOf (4 + s .attribute % 4 + s .attribute / 32 % 2 * 8) (colourOf (s .low) (s .high) (cond (bit 64 (s .attribute)) j (7 - j)))) 8) where
+  pub placed-shade : (p : ℕ) → placed (byteOf n) (s .x) p ≡ shade s p
+  unfolding shade placed
+  placed-shade p =
+      ⊎-elim
+      (λ (lt : p < s .x). rw (lt-leb (s .x) p lt))
+      (λ (ge : s .x ≤ p).
+      ⊎-elim
+      (λ (lt : p < s .x + 8).
+      rw (le-leb (s .x) p ge, lt-ltb p (s .x + 8) lt, e)
+      (shade-bytes (s .low) (s .high) (4 + s .attribute % 4 + s .attribute / 32 % 2 * 8) (bit 64 (s .attribute)) (p - s .x) (omega arith) (omega arith)))
+      (λ (out : s .x + 8 ≤ p). rw (le-leb (s .x) p ge, le-ltb p (s .x + 8) out))
+      (lt-or-ge p (s .x + 8)))
+      (lt-or-ge p (s .x))
+
+  -- over a row, at each column: `put_over`
+  pub over-shade : (p : ℕ) (row row′ : List ℕ) → s .x + 8 ≤ length row → row′ ≡ overTab (byteOf n) (s .x) 8 row → getD row′ p 0 ≡ overOne (getD row p 0) (shade s p)
+  over-shade p row row′ h d = rw d (over-placed (byteOf n) (s .x) p row h ∙ ap (λ (v : ℕ). overOne (getD row p 0) v) (placed-shade p))

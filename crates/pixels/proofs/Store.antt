@@ -10,9 +10,9 @@ use native.Mathlib.Nat.{add-zero, add-suc, add-assoc}
 use borrow.Author.Tests.{lt-ltb, le-ltb}
 use lib.Dec.{ltb}
 use lib.ListN.{length, getD, set, drop}
-use lib.Seq.{drop-cons, getD-at, getD-set-same, getD-set-other}
+use lib.Seq.{getD-set-same, getD-set-other}
 use Rattle.model.specs.Line.{tab}
-use Rattle.model.proofs.Tab.{length-tab, tab-more}
+use Rattle.model.proofs.Tab.{tab-more}
 use Rattle.model.proofs.Scroll.{lt-or-ge}
 use Rattle.pixels.specs.Row.{storeTab}
 
@@ -41,10 +41,6 @@ tile-more f g at zero l l′ h e k = rw (add-zero at) e
 tile-more f g at (suc n) l l′ h e k =
     rw (add-suc at n, ← add-one (at + n))
     (tab-more f (at + n) l (storeTab g at n l′) (g n) (omega arith) (tile-more f g at n l l′ (omega arith) e (λ j lt. k j (omega arith))) (k n (omega arith)))
-
--- a list that is filled from the front still has its own element next
-pub rest-at : (f : ℕ → ℕ) (n : ℕ) (l l′ : List ℕ) → n < length l → l′ ≡ tab f n ++ drop n l → getD l′ n 0 ≡ getD l n 0
-rest-at f n l l′ h e = rw (e, drop-cons l n 0) (getD-at (tab f n) (getD l n 0) (drop (suc n) l) 0 n (length-tab f n))
 
 -- a list whose first columns are cleared: one store more
 pub clear-more : (l l′ : List ℕ) (i p : ℕ) → i < length l′ → getD l′ p 0 ≡ cond (ltb p i) 0 (getD l p 0) → getD (set l′ i 0) p 0 ≡ cond (ltb p (i + 1)) 0 (getD l p 0)

@@ -2,18 +2,18 @@
 // spread, spread_back, numbers: a byte's bits one to a byte; pixel numbers from two bytes' bits.
 // put8, put_tile: eight pixels stored in a row; those of a background tile.
 // sprite_bytes, put_over: the eight pixels of a sprite's row; stored only where nothing opaque stands.
-// clear, merge, any_both: over a whole row: the left columns hidden, sprites over background, sprite 0 hit.
+// clear, merge8, meets: the left columns hidden, eight columns of sprites over background, sprite 0 hit.
 ghost use mathlib.Core.Path.{_≡_};
 ghost use mathlib.Core.Bool.{cond, _&&_};
 ghost use Prim.Native.Nat.{ℕ, _+_, _-_, _*_, _/_, _%_, _<_, _≤_};
-ghost use lib.Dec.{ltb};
+ghost use lib.Dec.{eqb, ltb};
 ghost use lib.ListN.{length, getD};
 ghost use Rattle.model.specs.Unit.{bit};
 ghost use Rattle.model.specs.Record.{bitByte};
 ghost use Rattle.model.specs.Background.{colourOf, numberOf};
-ghost use Rattle.model.specs.Line.{tab, merged, anyOf};
+ghost use Rattle.model.specs.Line.{merged};
 ghost use Rattle.pixels.specs.Pack.{pack, byteOf, spreadOf, backOf, pixelsBy};
-ghost use Rattle.pixels.specs.Row.{storeTab, overOne, overTab};
+ghost use Rattle.pixels.specs.Row.{storeTab, overOne, overTab, placed, mergedIn, meetsOf};
 use model::Sprite;
 
 // 1 in each byte.
@@ -134,31 +134,37 @@ pub fn clear(row: &mut [u8], n: usize)
     }
 }
 
-// The sprites' pixel s over the background's pixel b; bit 5 of s says behind.
+// The sprites' pixel s over the background's pixel b; bit 5 of s says behind. Each test by itself picks one of two values, so that
+// eight pixels are merged with no branch. Within: bare, in_front.
+// Behind a background that is not opaque is in front of it.
+fn bare(b: u8, s: u8) -> u8
+    ensures { λ r. ⌜ r ≡ cond (eqb b 0) (s % 32) s ⌝ }
+{
+    if b == 0 { bits::low8(s, 5) } else { s }
+}
+
+fn in_front(b: u8, s: u8) -> u8
+    ensures { λ r. ⌜ r ≡ cond (bit 32 s) b (s % 32) ⌝ }
+{
+    if bits::bit(s, 5) { b } else { bits::low8(s, 5) }
+}
+
 fn merge_one(b: u8, s: u8) -> u8
     ensures { λ r. ⌜ r ≡ merged b s ⌝ }
 {
-    if b == 0 {
-        return bits::low8(s, 5);
-    }
-    if s == 0 {
-        return b;
-    }
-    if bits::bit(s, 5) {
-        return b;
-    }
-    bits::low8(s, 5)
+    let over = in_front(b, bare(b, s));
+    if s == 0 { b } else { over }
 }
 
-// The sprites' row over the background's line.
-pub fn merge(line: &mut [u8], s: &[u8])
-    requires { ⌜ (length (now line) ≡ 256) × (length (now s) ≡ 264) ⌝ }
-    ensures { λ _. ⌜ now (line .exit) ≡ tab (λ (p : ℕ). merged (getD (now (line .entry)) p 0) (getD (now (s .entry)) p 0)) 256 ⌝ }
+// The sprites' row over the background's line, in eight columns from column at on.
+pub fn merge8(line: &mut [u8], s: &[u8], at: usize)
+    requires { ⌜ (length (now line) ≡ 256) × (length (now s) ≡ 264) × (at ≤ 248) ⌝ }
+    ensures { λ _. ⌜ ((p : ℕ) → getD (now (line .exit)) p 0 ≡ mergedIn (now (line .entry)) (now (s .entry)) at 8 p) ⌝ }
 {
-    let mut p = 0;
-    while p < 256 {
-        line[p] = merge_one(line[p], s[p]);
-        p += 1;
+    let mut j = 0;
+    while j < 8 {
+        line[at + j] = merge_one(line[at + j], s[at + j]);
+        j += 1;
     }
 }
 
@@ -175,16 +181,30 @@ fn both(b: u8, s: u8) -> u8
     1
 }
 
-// Some column below 255 where both rows are opaque.
-pub fn any_both(b: &[u8], s: &[u8]) -> bool
-    requires { ⌜ (length (now b) ≡ 256) × (length (now s) ≡ 264) ⌝ }
-    ensures { λ r. ⌜ r ≡ anyOf (λ (p : ℕ). ltb 0 (getD (now (b .entry)) p 0) && ltb 0 (getD (now (s .entry)) p 0)) 255 ⌝ }
+// The greater of two columns, and the lesser.
+fn later(a: usize, b: usize) -> usize
+    ensures { λ r. ⌜ (a ≤ r) × (b ≤ r) × (r ≡ cond (ltb a b) b a) ⌝ }
 {
-    let mut n = 0u8;
-    let mut p = 0;
-    while p < 255 {
-        n += both(b[p], s[p]);
+    if a < b { b } else { a }
+}
+
+pub fn sooner(a: usize, b: usize) -> usize
+    ensures { λ r. ⌜ (r ≤ a) × (r ≤ b) × (r ≡ cond (ltb a b) a b) ⌝ }
+{
+    if a < b { a } else { b }
+}
+
+// Eight pixels from column at on, hidden in the first `skip` columns: some column below 255 where the line is opaque too.
+pub fn meets(line: &[u8], at: usize, n: u64, skip: usize) -> bool
+    requires { ⌜ (length (now line) ≡ 256) × (at < 256) × (skip ≤ 8) ⌝ }
+    ensures { λ r. ⌜ r ≡ meetsOf (now (line .entry)) (placed (byteOf n) at) skip ⌝ }
+{
+    let end = sooner(at + 8, 255);
+    let mut found = 0u8;
+    let mut p = later(at, skip);
+    while p < end {
+        found += both(line[p], byte(n, p - at));
         p += 1;
     }
-    0 < n
+    0 < found
 }

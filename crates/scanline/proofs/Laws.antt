@@ -16,7 +16,8 @@ use Rattle.model.specs.Sprites.{covers, placesOf, spriteOn, spriteZeroOn, sprit
 use Rattle.model.specs.Line.{tab, anyOf, merged, backgroundOn, pixelOf, hitOf, picture}
 use Rattle.model.proofs.Tab.{tab-ext, tab-cong, getD-tab}
 use Rattle.model.proofs.Scroll.{lt-or-ge}
-use Rattle.pixels.proofs.Hit.{any-cong}
+use Rattle.pixels.specs.Row.{meetsOf}
+use Rattle.pixels.proofs.Hit.{any-cong, any-none}
 use Rattle.sprites.proofs.Winner.{none-on, none-zero}
 use Rattle.scanline.specs.Shown.{backOf, overOf, zeroOf, overLine, hitLine}
 
@@ -52,15 +53,6 @@ merged-none b s e = rw e
 
 pub unmerged : (b : List ℕ) (g : ℕ → ℕ) → length b ≡ 256 → ((p : ℕ) → g p ≡ 0) → b ≡ tab (λ (p : ℕ). merged (getD b p 0) (g p)) 256
 unmerged b g h e = tab-ext (λ (p : ℕ). merged (getD b p 0) (g p)) 256 b h (λ p lt. sym (merged-none (getD b p 0) (g p) (e p)))
-
-and-false : (b : Bool) → (b && false) ≡ false
-and-false true = refl
-and-false false = refl
-
-pub any-none : (f g : ℕ → ℕ) (n : ℕ) → ((p : ℕ) → g p ≡ 0) → false ≡ anyOf (λ (p : ℕ). ltb 0 (f p) && ltb 0 (g p)) n
-unfolding anyOf
-any-none f g zero h = refl
-any-none f g (suc n) h = rw (← any-none f g n h, h n, and-false (ltb 0 (f n)))
 
 pub zeros-at : (n k : ℕ) → _≡_ {A = ℕ} (getD (replicate n 0) k 0) 0
 zeros-at zero k = refl
@@ -112,17 +104,14 @@ module _ (u : Ppu) (l r o : List ℕ) where
       ∙ tab-cong _ _ 256
       (λ p lt. ap (λ (x : ℕ). merged (getD b p 0) x) (c p ∙ ap (λ (x : ℕ). cond (ltb p k) 0 x) (w p) ∙ over-cut (u .mask) k p (spriteOn (u .control) l r o (u .scanline) p) on e))
 
-  -- sprite 0's row, cut
-  pub hit-1 : (k : ℕ) (row row′ b : List ℕ) (x : Bool) → bit 16 (u .mask) ≡ true → k ≡ cond (bit 4 (u .mask)) 0 8
-      → ((p : ℕ) → getD row p 0 ≡ spriteZeroOn (u .control) l r o (u .scanline) p) → ((p : ℕ) → getD row′ p 0 ≡ cond (ltb p k) 0 (getD row p 0))
-      → x ≡ anyOf (λ (p : ℕ). ltb 0 (getD b p 0) && ltb 0 (getD row′ p 0)) 255 → x ≡ hitLine u l r o b
-  unfolding hitLine zeroOf
-  hit-1 k row row′ b x on e w c d =
+  -- sprite 0, cut
+  pub hit-1 : (n k : ℕ) (b : List ℕ) (x : Bool) → n ≡ u .scanline → bit 16 (u .mask) ≡ true → k ≡ cond (bit 4 (u .mask)) 0 8
+      → x ≡ meetsOf b (spriteZeroOn (u .control) l r o n) k → x ≡ hitLine u l r o b
+  unfolding hitLine zeroOf meetsOf
+  hit-1 n k b x s on e d =
       d
       ∙ any-cong _ _ 255
-      (λ p lt.
-      ap (λ (z : ℕ). ltb 0 (getD b p 0) && ltb 0 z)
-      (c p ∙ ap (λ (z : ℕ). cond (ltb p k) 0 z) (w p) ∙ over-cut (u .mask) k p (spriteZeroOn (u .control) l r o (u .scanline) p) on e))
+      (λ p lt. rw s (ap (λ (z : ℕ). ltb 0 (getD b p 0) && ltb 0 z) (over-cut (u .mask) k p (spriteZeroOn (u .control) l r o (u .scanline) p) on e)))
 
   -- sprites not shown, or none on the line
   pub over-2 : (b : List ℕ) → length b ≡ 256 → bit 16 (u .mask) ≡ false → b ≡ overLine u l r o b

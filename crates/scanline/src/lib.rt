@@ -59,10 +59,7 @@ fn zero_hits(u: Ppu, n: u8, skip: usize, left: &[u8], right: &[u8], oam: &[u8], 
     requires { ⌜ (n ≡ u .scanline) × (skip ≡ cond (bit 4 (u .mask)) 0 8) × (skip ≤ 8) × (bit 16 (u .mask) ≡ true) ⌝ }
     ensures { λ r. ⌜ r ≡ hitLine u (now (left .entry)) (now (right .entry)) (now (oam .entry)) (now (line .entry)) ⌝ }
 {
-    let mut row = [0u8; 264];
-    sprites::sprite_zero_row(u.control, n, left, right, oam, &mut row);
-    pixels::clear(&mut row, skip);
-    pixels::any_both(line, &row)
+    sprites::zero_meets(u.control, n, skip, left, right, oam, line)
 }
 
 // The chosen sprites over the line, hidden in the first `skip` columns.
@@ -85,7 +82,7 @@ fn overlay(
     let mut row = [0u8; 264];
     sprites::sprite_row(u.control, n, count, left, right, oam, list, &mut row);
     pixels::clear(&mut row, skip);
-    pixels::merge(line, &row);
+    sprites::merge_row(line, &row, count, oam, list);
 }
 
 // The chosen sprites over the line, with mask bit 4; whether sprite 0 hits.

@@ -161,4 +161,4 @@ pub ruleset listed-cases = (listed-1, listed-2)
 pub put-1 : (s : Sprite) (at n : ℕ) (row row′ : List ℕ) → length row ≡ 264 → at ≡ s .x → at < 256
     → n ≡ pack (λ (j : ℕ). numberOf (4 + s .attribute % 4 + s .attribute / 32 % 2 * 8) (colourOf (s .low) (s .high) (cond (bit 64 (s .attribute)) j (7 - j)))) 8
     → row′ ≡ overTab (byteOf n) at 8 row → (p : ℕ) → getD row′ p 0 ≡ cond (eqb (getD row p 0) 0) (shade s p) (getD row p 0)
-put-1 s at n row row′ h e lt f d p = over-shade s n p row row′ (omega arith) f (rw e at d)
+put-1 s at n row row′ h e lt f d p = over-shade s n f p row row′ (omega arith) (rw e at d)

@@ -2,6 +2,7 @@ pub mod Places
 pub mod Loops
 pub mod Winner
 pub mod Row
+pub mod Merge
 pub mod Cases
 pub mod Walk
 pub mod Again

@@ -52,12 +52,12 @@ count-first f (suc n) e = count-first f n (by-test (f (suc n)) e)
     by-test true e = omega arith
     by-test false e = e
 
-count-cong : (f g : ℕ → Bool) (n : ℕ) → ((i : ℕ) → i < n → f i ≡ g i) → countOf f n ≡ countOf g n
+pub count-cong : (f g : ℕ → Bool) (n : ℕ) → ((i : ℕ) → i < n → f i ≡ g i) → countOf f n ≡ countOf g n
 unfolding countOf
 count-cong f g zero h = refl
 count-cong f g (suc n) h = rw (count-cong f g n (λ i lt. h i (omega arith)), h n (omega arith))
 
-places-cong : (f g : ℕ → Bool) (n : ℕ) → ((i : ℕ) → i < n → f i ≡ g i) → placesOf f n ≡ placesOf g n
+pub places-cong : (f g : ℕ → Bool) (n : ℕ) → ((i : ℕ) → i < n → f i ≡ g i) → placesOf f n ≡ placesOf g n
 unfolding placesOf
 places-cong f g zero h = refl
 places-cong f g (suc n) h = rw (places-cong f g n (λ i lt. h i (omega arith)), h n (omega arith))

@@ -1,19 +1,24 @@
 -- The sprites that a line shows, in the choice's list and in the row; put one after the other, the first opaque pixel of each column stays.
-use Prim.Native.Nat.{ℕ, suc, _-_, _<_, _≤_}
+use Prim.Native.Nat.{ℕ, zero, suc, _+_, _-_, _*_, _/_, _%_, _<_, _≤_}
 use mathlib.Core.Path.{_≡_, refl, ap, sym, _∙_}
-use mathlib.Core.Bool.{Bool, true, false, cond, and-false}
+use mathlib.Core.Bool.{Bool, true, false, cond, _&&_, and-false}
 use mathlib.Core.Logic.{⊎-elim}
-use mathlib.Core.List.{List, [], _∷_, _++_, map}
+use mathlib.Core.List.{List, [], _∷_, _++_, map, map-append}
 use native.Mathlib.Omega.{arith}
 use borrow.Author.Tests.{ne-eqb, lt-ltb}
-use lib.Dec.{eqb, ltb}
+use lib.Dec.{eqb, ltb, leb}
 use lib.ListN.{length, getD, take}
-use lib.Seq.{take-all, getD-take, length-take-le}
+use lib.Seq.{take-suc, take-all, getD-take, length-take-le}
 use Rattle.model.specs.declared.Sprite.{Sprite}
-use Rattle.model.specs.Sprites.{covers, placesOf, countOf, fetched, chosen, shade, winner, spriteOn, spriteZeroOn}
+use Rattle.model.specs.Unit.{bit}
+use Rattle.model.specs.Background.{colourOf, numberOf}
+use Rattle.model.specs.Sprites.{oamAt, covers, placesOf, countOf, fetched, chosen, shade, winner, spriteOn, spriteZeroOn}
 use Rattle.model.proofs.Scroll.{lt-or-ge}
-use Rattle.pixels.proofs.Over.{over-none}
-use Rattle.sprites.specs.Row.{shownOn}
+use Rattle.pixels.specs.Pack.{pack, byteOf}
+use Rattle.pixels.specs.Row.{placed, meetsOf}
+use Rattle.pixels.proofs.Over.{over-none, placed-shade}
+use Rattle.pixels.proofs.Hit.{meets-none, meets-cong}
+use Rattle.sprites.specs.Row.{shownOn, Beside}
 use Rattle.sprites.proofs.Places.{places-at, length-places, count-first}
 
 -- the winner stays under one sprite more
@@ -41,6 +46,11 @@ winner-shown c n left right o p = by-test (eqb n 0)
     by-test : (b : Bool) → winner (cond b [] (chosen c left right o (n - 1))) p ≡ cond b 0 (winner (chosen c left right o (n - 1)) p)
     by-test true = refl
     by-test false = refl
+
+-- a sprite has no pixel beside its eight columns
+beside-shade : (c m : ℕ) (left right o : List ℕ) (p i : ℕ) → (leb (oamAt o i 3) p && ltb p (oamAt o i 3 + 8)) ≡ false → shade (fetched c left right o m i) p ≡ 0
+unfolding shade fetched
+beside-shade c m left right o p i e = rw e
 
 -- ---- the list that the choice leaves
 module _ (c n count : ℕ) (o list : List ℕ) (few : count ≤ 8) (long : length list ≡ 65) (e : take count list ≡ cond (eqb n 0) [] (take 8 (placesOf (covers c o (n - 1)) 64))) where
@@ -76,6 +86,22 @@ module _ (c n count : ℕ) (o list : List ℕ) (few : count ≤ 8) (long : lengt
       by-test true = refl
       by-test false = refl
 
+  -- in a column beside all of them no sprite is drawn
+  pub beside-none : (left right : List ℕ) (p : ℕ) → Beside o list count p → spriteOn c left right o n p ≡ 0
+  unfolding winner
+  beside-none left right p h = sym (winner-shown c n left right o p) ∙ rw (← shown-listed left right) (beside-winner left right p count (omega arith) h)
+    where
+      beside-winner : (left right : List ℕ) (p k : ℕ) → k ≤ 65 → Beside o list k p → winner (map (fetched c left right o (n - 1)) (take k list)) p ≡ 0
+      beside-winner left right p zero room h = refl
+      beside-winner left right p (suc k) room h =
+          rw (
+            take-suc list k 0 (omega arith),
+            map-append (fetched c left right o (n - 1)) (take k list) (getD list k 0 ∷ []),
+            winner-more (map (fetched c left right o (n - 1)) (take k list)) (fetched c left right o (n - 1) (getD list k 0)) p,
+            beside-winner left right p k (omega arith) (λ j lt. h j (omega arith)),
+          )
+          (beside-shade c (n - 1) left right o p (getD list k 0) (h k (omega arith)))
+
   -- where it is empty no sprite is drawn, nor is sprite 0
   pub none-on : count ≡ 0 → (left right : List ℕ) (p : ℕ) → spriteOn c left right o n p ≡ 0
   unfolding winner
@@ -93,21 +119,29 @@ module _ (c n count : ℕ) (o list : List ℕ) (few : count ≤ 8) (long : lengt
       (λ (none : n ≤ 0). let d : n ≡ 0 = omega arith in rw d)
       (lt-or-ge 0 n)
 
--- ---- sprite 0
-module _ (c n : ℕ) (left right o : List ℕ) where
-  pub zero-1 : n ≡ 0 → (row : List ℕ) → ((p : ℕ) → getD row p 0 ≡ 0) → (p : ℕ) → getD row p 0 ≡ spriteZeroOn c left right o n p
-  unfolding spriteZeroOn
-  zero-1 z row e p = e p ∙ rw z
+-- ---- sprite 0's hit: none on line 0, none where it does not cover the line, or by its eight pixels
+module _ (c n skip : ℕ) (left right o line : List ℕ) where
+  abbrev hits : Bool
+  hits = meetsOf line (spriteZeroOn c left right o n) skip
 
-module _ (c n m : ℕ) (left right o : List ℕ) (b : Bool) (u : n ≡ 0 → ⊥) (d : m ≡ n - 1) (e : b ≡ covers c o m 0) where
-  pub zero-2 : b ≡ false → (row : List ℕ) → ((p : ℕ) → getD row p 0 ≡ 0) → (p : ℕ) → getD row p 0 ≡ spriteZeroOn c left right o n p
+  pub zero-1 : n ≡ 0 → false ≡ hits
   unfolding spriteZeroOn
-  zero-2 t row z p = z p ∙ rw (lt-ltb 0 n (omega arith), ← d, sym e ∙ t)
+  zero-1 z = meets-none line (spriteZeroOn c left right o n) skip (λ p. rw z)
 
-  pub zero-3 : b ≡ true → (s : Sprite) (row row′ : List ℕ) → length row ≡ 264 → ((p : ℕ) → getD row p 0 ≡ 0) → s ≡ fetched c left right o m 0
-      → ((p : ℕ) → getD row′ p 0 ≡ cond (eqb (getD row p 0) 0) (shade s p) (getD row p 0)) → (p : ℕ) → getD row′ p 0 ≡ spriteZeroOn c left right o n p
-  unfolding spriteZeroOn
-  zero-3 t s row row′ h z f g p = g p ∙ rw (z p, f, lt-ltb 0 n (omega arith), ← d, sym e ∙ t)
+  module _ (m : ℕ) (b : Bool) (u : n ≡ 0 → ⊥) (d : m ≡ n - 1) (e : b ≡ covers c o m 0) where
+    pub zero-2 : b ≡ false → false ≡ hits
+    unfolding spriteZeroOn
+    zero-2 t = meets-none line (spriteZeroOn c left right o n) skip (λ p. rw (lt-ltb 0 n (omega arith), ← d, sym e ∙ t))
+
+    zero-shade : b ≡ true → (p : ℕ) → shade (fetched c left right o m 0) p ≡ spriteZeroOn c left right o n p
+    unfolding spriteZeroOn
+    zero-shade t p = rw (lt-ltb 0 n (omega arith), ← d, sym e ∙ t)
+
+    pub zero-3 : b ≡ true → (s : Sprite) (at w : ℕ) (r : Bool) → s ≡ fetched c left right o m 0 → at ≡ s .x
+        → w ≡ pack (λ (j : ℕ). numberOf (4 + s .attribute % 4 + s .attribute / 32 % 2 * 8) (colourOf (s .low) (s .high) (cond (bit 64 (s .attribute)) j (7 - j)))) 8
+        → r ≡ meetsOf line (placed (byteOf w) at) skip → r ≡ hits
+    zero-3 t s at w r f x g h =
+        h ∙ meets-cong line (placed (byteOf w) at) (spriteZeroOn c left right o n) skip (λ p. rw (x, placed-shade s w g p, f) (zero-shade t p))
 
 pub zero-covers : (c : ℕ) (o : List ℕ) (m : ℕ) (b : Bool) → b ≡ covers c o m 0 → b ≡ true → covers c o m 0 ≡ true
 zero-covers c o m b e t = sym e ∙ t

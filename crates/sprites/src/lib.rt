@@ -1,20 +1,22 @@
 // The sprites of a line: which it shows, and their pixels. Inner functions, not public calls.
-// choose: the eight that a line shows, and overflow. Within: height, distance, distances, near_one, count, list_places, at_most_eight.
+// choose: the eight that a line shows, and overflow. Within: height, distance, distances, near_one, count, marks, any8, list_eight, list_some,
+// list_marked, list_places, at_most_eight.
 // fetch: a sprite's two pattern bytes on a line. Within: row_of, second_table, tile_of, pattern_at, pattern_byte.
-// put_sprite, sprite_row, sprite_zero_row: a sprite over pixels, the winning pixel of every column, sprite 0. Within: covering, line_before,
-// listed, fill_row, draw_row. Pixels have 264 columns, so that a sprite at X = 255 has room; a line shows the first 256.
+// put_sprite, sprite_row: a sprite over pixels, the winning pixel of every column. Within: line_before, listed, fill_row, draw_row.
+// merge_row, zero_meets: those pixels over a line, sprite 0's hit. Within: covering. Pixels have 264 columns, so that a sprite at X = 255 has room; a line shows the first 256.
 ghost use mathlib.Core.Path.{_≡_};
 ghost use mathlib.Core.Bool.{cond, true};
 ghost use mathlib.Core.List.{[], _++_};
 ghost use Prim.Native.Nat.{ℕ, _+_, _-_, _<_, _≤_};
 ghost use lib.Dec.{eqb, ltb};
 ghost use lib.ListN.{length, getD, take, drop};
-ghost use Rattle.model.specs.Line.{tab};
+ghost use Rattle.model.specs.Line.{tab, merged};
+ghost use Rattle.pixels.specs.Row.{meetsOf};
 ghost use Rattle.model.specs.Address.{tableOf};
 ghost use Rattle.model.specs.Sprites.{height as heightOf, covers, placesOf, countOf, overflows};
 ghost use Rattle.model.specs.Sprites.{rowOf, secondTable, tileOf, patternAt, fetched, shade, winner, spriteOn, spriteZeroOn};
-ghost use Rattle.sprites.specs.Row.{shownOn};
-ghost use Rattle.sprites.specs.Distance.{distanceOf, distanceAt, isFrom, near};
+ghost use Rattle.sprites.specs.Row.{shownOn, Beside};
+ghost use Rattle.sprites.specs.Distance.{distanceOf, distanceAt, isFrom, near, markOf, isMarked, Marks, orOf};
 use model::Sprite;
 
 // How many sprites the line shows, at most eight, and whether more than eight cover it.
@@ -73,18 +75,82 @@ fn count(d: &[u8], from: u8, h: u8) -> u8
     n
 }
 
-// The places of those distances, in order, at the front of `list`: each is stored, and the next goes over it unless it counts.
+// Those distances are marked.
+fn marks(d: &[u8], from: u8, h: u8, m: &mut [u8])
+    requires { ⌜ (length (now d) ≡ 64) × (length (now m) ≡ 64) ⌝ }
+    ensures { λ _. ⌜ now (m .exit) ≡ tab (markOf (now (d .entry)) from h) 64 ⌝ }
+{
+    let mut i = 0;
+    while i < 64 {
+        m[i] = near_one(d[i], from, h);
+        i += 1;
+    }
+}
+
+// Not 0 if one of the eight from place at on is marked.
+fn any8(m: &[u8], at: usize) -> u8
+    requires { ⌜ (length (now m) ≡ 64) × (at + 8 ≤ 64) ⌝ }
+    ensures { λ r. ⌜ r ≡ orOf (now (m .entry)) at 8 ⌝ }
+{
+    let mut any = 0u8;
+    let mut j = 0;
+    while j < 8 {
+        any = any | m[at + j];
+        j += 1;
+    }
+    any
+}
+
+// The n marked places below at stand at the front of `list`: the marked ones of the next eight come behind them. How many there are then.
+// Each place is stored, and the next goes over it unless it is marked.
+fn list_eight(m: &[u8], at: usize, n: usize, list: &mut [u8]) -> usize
+    requires { ⌜ (length (now m) ≡ 64) × Marks (now m) × (at + 8 ≤ 64) × (length (now list) ≡ 65) ⌝ }
+    requires { ⌜ (n ≡ countOf (isMarked (now m)) at) × (take n (now list) ≡ placesOf (isMarked (now m)) at) ⌝ }
+    ensures { λ r. ⌜ (r ≡ countOf (isMarked (now (m .entry))) (at + 8)) × (take r (now (list .exit)) ≡ placesOf (isMarked (now (m .entry))) (at + 8)) ⌝ }
+{
+    let mut k = n;
+    let mut j = 0;
+    while j < 8 {
+        list[k] = (at + j) as u8;
+        k += bits::wide(m[at + j]);
+        j += 1;
+    }
+    k
+}
+
+// The same, with nothing done where none of the eight is marked.
+fn list_some(m: &[u8], at: usize, n: usize, list: &mut [u8]) -> usize
+    requires { ⌜ (length (now m) ≡ 64) × Marks (now m) × (at + 8 ≤ 64) × (length (now list) ≡ 65) ⌝ }
+    requires { ⌜ (n ≡ countOf (isMarked (now m)) at) × (take n (now list) ≡ placesOf (isMarked (now m)) at) ⌝ }
+    ensures { λ r. ⌜ (r ≡ countOf (isMarked (now (m .entry))) (at + 8)) × (take r (now (list .exit)) ≡ placesOf (isMarked (now (m .entry))) (at + 8)) ⌝ }
+{
+    if any8(m, at) == 0 {
+        return n;
+    }
+    list_eight(m, at, n, list)
+}
+
+// The marked places, in order, at the front of `list`.
+fn list_marked(m: &[u8], list: &mut [u8])
+    requires { ⌜ (length (now m) ≡ 64) × Marks (now m) × (length (now list) ≡ 65) ⌝ }
+    ensures { λ _. ⌜ take (countOf (isMarked (now (m .entry))) 64) (now (list .exit)) ≡ placesOf (isMarked (now (m .entry))) 64 ⌝ }
+{
+    let mut n = 0;
+    let mut b = 0;
+    while b < 8 {
+        n = list_some(m, 8 * b, n, list);
+        b += 1;
+    }
+}
+
+// The places of those distances, in order, at the front of `list`.
 fn list_places(d: &[u8], from: u8, h: u8, list: &mut [u8])
     requires { ⌜ (length (now d) ≡ 64) × (length (now list) ≡ 65) ⌝ }
     ensures { λ _. ⌜ take (countOf (near (now (d .entry)) from h) 64) (now (list .exit)) ≡ placesOf (near (now (d .entry)) from h) 64 ⌝ }
 {
-    let mut n = 0;
-    let mut i = 0;
-    while i < 64 {
-        list[n] = i as u8;
-        n += bits::wide(near_one(d[i], from, h));
-        i += 1;
-    }
+    let mut m = [0u8; 64];
+    marks(d, from, h, &mut m);
+    list_marked(&m, list);
 }
 
 // The first eight in OAM order are taken.
@@ -291,17 +357,40 @@ pub fn sprite_row(
     draw_row(&row, count, pixels);
 }
 
-// Sprite 0 by itself on line n.
-pub fn sprite_zero_row(control: u8, n: u8, left: &[u8], right: &[u8], oam: &[u8], row: &mut [u8])
-    requires { ⌜ (length (now left) ≡ 4096) × (length (now right) ≡ 4096) × (length (now oam) ≡ 256) × (length (now row) ≡ 264) × ((p : ℕ) → getD (now row) p 0 ≡ 0) ⌝ }
-    ensures { λ _. ⌜ ((p : ℕ) → getD (now (row .exit)) p 0 ≡ spriteZeroOn control (now (left .entry)) (now (right .entry)) (now (oam .entry)) n p)
-        × (length (now (row .exit)) ≡ 264) ⌝ }
+// The sprites' row over a line, in the eight columns of each of the list's first `count` sprites: elsewhere the row has none.
+pub fn merge_row(line: &mut [u8], row: &[u8], count: usize, oam: &[u8], list: &[u8])
+    requires { ⌜ (length (now line) ≡ 256) × (length (now row) ≡ 264) × (length (now oam) ≡ 256) × (length (now list) ≡ 65) × (count ≤ 8) ⌝ }
+    requires { ⌜ ((k : ℕ) → k < count → getD (now list) k 0 < 64) × ((p : ℕ) → Beside (now oam) (now list) count p → getD (now row) p 0 ≡ 0) ⌝ }
+    ensures { λ _. ⌜ now (line .exit) ≡ tab (λ (p : ℕ). merged (getD (now (line .entry)) p 0) (getD (now (row .entry)) p 0)) 256 ⌝ }
+{
+    let mut i = 0;
+    while i < count {
+        let x = bits::wide(oam[4 * bits::wide(list[i]) + 3]);
+        pixels::merge8(line, row, pixels::sooner(x, 248));
+        i += 1;
+    }
+}
+
+// Sprite 0, hidden in the first `skip` columns: on line n some column below 255 where it is opaque and so is the line.
+pub fn zero_meets(
+    control: u8,
+    n: u8,
+    skip: usize,
+    left: &[u8],
+    right: &[u8],
+    oam: &[u8],
+    line: &[u8],
+) -> bool
+    requires { ⌜ (length (now left) ≡ 4096) × (length (now right) ≡ 4096) × (length (now oam) ≡ 256) × (length (now line) ≡ 256) × (skip ≤ 8) ⌝ }
+    ensures { λ r. ⌜ r ≡ meetsOf (now (line .entry)) (spriteZeroOn control (now (left .entry)) (now (right .entry)) (now (oam .entry)) n) skip ⌝ }
 {
     if n == 0 {
-        return;
+        return false;
     }
     let above = line_before(n);
     if covering(control, above, 0, oam) {
-        put_sprite(fetch(control, above, 0, left, right, oam), row);
+        let s = fetch(control, above, 0, left, right, oam);
+        return pixels::meets(line, bits::wide(s.x), pixels::sprite_bytes(s), skip);
     }
+    false
 }

@@ -1,7 +1,8 @@
 use Prim.Native.Nat.{_-_}
 use native.Mathlib.Omega.{arith}
 use borrow.Author.Needs.{needs}
-use Rattle.sprites.proofs.Loops.{Measured, measured-cases}
+use Rattle.sprites.specs.Distance.{distanceAt}
+use Rattle.sprites.proofs.Loops.{Filled, filled-loop}
 use Rattle.sprites.proofs.distances.Statement.{statement}
 use Rattle.sprites.proofs.distances.Tie as tie
 use Rattle.sprites.proofs.distances.Reads as reads
@@ -9,13 +10,13 @@ use Rattle.sprites.proofs.distances.Lts as lts
 use Rattle.sprites.proofs.distance.Reads as distance-reads
 
 abbrev Inv-loop : tie.InvT-loop
-Inv-loop n oam d₀ i₀ d i = Measured n oam d₀ d i
+Inv-loop n oam d₀ i₀ d i = Filled (distanceAt n oam) d₀ d i
 
 abbrev μ-loop : tie.MeasureT-loop
 μ-loop n oam d₀ i₀ d i = 64 - i
 
 loop-holds : tie.Need-loop-holds Inv-loop μ-loop
-loop-holds c = search (measured-cases, arith)
+loop-holds c = search (filled-loop, arith)
 
 mul-distance : tie.Need-mul-distance Inv-loop μ-loop
 mul-distance c = search needs
@@ -36,13 +37,13 @@ loop-less : tie.Need-loop-less Inv-loop μ-loop
 loop-less c = search needs
 
 loop-again : tie.Need-loop-again Inv-loop μ-loop
-loop-again c = search (measured-cases, arith)
+loop-again c = search (filled-loop, arith)
 
 same-length : tie.Need-same-length Inv-loop μ-loop
 same-length c = search needs
 
 returns : tie.Need-returns Inv-loop μ-loop
-returns c = search (measured-cases, arith)
+returns c = search (filled-loop, arith)
 
 pub distances-spec : {M : Type 1} → statement M
 distances-spec =
