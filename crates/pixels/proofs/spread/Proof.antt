@@ -18,7 +18,7 @@ add-result c = search needs
 
 returns : tie.Need-returns
 unfolding pack spreadOf
-returns c = spread-is _ _ _ _ tt (c .wide64 .ensures .0) (search needs)
+returns c = spread-is _ _ _ _ (search needs) (c .wide64 .ensures .0) (search needs)
 
 pub spread-spec : {M : Type 1} → statement M
 spread-spec = tie.close (tie.spec wide64-requires mul-result add-result returns)

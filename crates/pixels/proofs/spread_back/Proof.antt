@@ -29,7 +29,7 @@ add-result c = search back-fits
 
 returns : tie.Need-returns
 unfolding pack backOf
-returns c = back-is _ _ _ _ _ _ _ _ tt (c .before .wide64 .ensures .0) (c .before .before .low8 .ensures) (c .wide642 .ensures .0) refl (search needs)
+returns c = back-is _ _ _ _ _ _ _ _ (search needs) (c .before .wide64 .ensures .0) (c .before .before .low8 .ensures) (c .wide642 .ensures .0) refl (search needs)
 
 pub spread-back-spec : {M : Type 1} → statement M
 spread-back-spec =
