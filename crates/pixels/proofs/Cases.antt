@@ -73,13 +73,6 @@ both-opaque b s h k = rw (lt-ltb 0 b (omega arith), lt-ltb 0 s (omega arith))
 
 pub ruleset both-cases = (both-no-background, both-no-sprite, both-opaque)
 
--- sided: flipped, or not
-pub sided-flipped : (attribute plain flipped : ℕ) (b : Bool) → b ≡ bit 64 attribute → b ≡ true → flipped ≡ cond (bit 64 attribute) flipped plain
-sided-flipped attribute plain flipped b e d = rw (← e, d)
-
-pub sided-plain : (attribute plain flipped : ℕ) (b : Bool) → b ≡ bit 64 attribute → b ≡ false → plain ≡ cond (bit 64 attribute) flipped plain
-sided-plain attribute plain flipped b e d = rw (← e, d)
-
 -- later, sooner: by the test
 module _ (a b : ℕ) where
   pub later-1 : a < b → b ≡ cond (ltb a b) b a

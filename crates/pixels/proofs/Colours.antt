@@ -78,7 +78,7 @@ back-colours low high = colours-by low high (λ (k : ℕ). k)
 
 -- a row's numbers, from either side: b says that it is flipped
 pub sprite-pack : (b : Bool) (low high q : ℕ)
-    → pixelsBy (cond b (backOf low + 2 * backOf high) (spreadOf low + 2 * spreadOf high)) q ≡ pack (λ (j : ℕ). numberOf q (colourOf low high (cond b j (7 - j)))) 8
+    → pixelsBy (cond b (backOf low) (spreadOf low) + 2 * cond b (backOf high) (spreadOf high)) q ≡ pack (λ (j : ℕ). numberOf q (colourOf low high (cond b j (7 - j)))) 8
 sprite-pack true low high q = rw (back-colours low high) (pixels-are (λ (k : ℕ). colourOf low high k) q (λ k i. colour-lt low high k))
 sprite-pack false low high q = rw (colours-are low high) (pixels-are (λ (k : ℕ). colourOf low high (7 - k)) q (λ k i. colour-lt low high (7 - k)))
 

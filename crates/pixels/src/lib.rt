@@ -1,7 +1,7 @@
 // Eight pixels in a 64-bit word, the leftmost in the lowest byte, and rows of pixels.
-// spread, spread_back, numbers: a byte's bits one to a byte; pixel numbers from colours.
+// spread, numbers: a byte's bits one to a byte; pixel numbers from colours.
 // put8, put_tile: eight pixels stored in a row; those of a background tile.
-// sprite_bytes, put_over: the eight pixels of a sprite's row; stored only where nothing opaque stands.
+// sprite_bytes, put_over: the eight pixels of a sprite's row, from either side (order, sided); stored only where nothing opaque stands.
 // clear, merge8, meets: the left columns hidden, eight columns of sprites over background, sprite 0 hit.
 ghost use mathlib.Core.Path.{_≡_};
 ghost use mathlib.Core.Bool.{cond, _&&_};
@@ -20,10 +20,12 @@ use model::Sprite;
 const ONES: u64 = 0x0101010101010101;
 // Times a byte: its bit 7 - k, for k from 1 to 7, comes to the lowest bit of byte k, 9k - 7 places up. No two bits meet.
 const SPREAD: u64 = 0x0100804020100804;
-// Times a byte's low seven bits: bit k comes to the lowest bit of byte k, 7k places up. No two bits meet.
-const SPREAD_BACK: u64 = 0x0000040810204081;
-// 1 in the highest byte: the rightmost pixel.
-const RIGHTMOST: u64 = 0x0100000000000000;
+// Which bit of a byte pixel k takes: bit 7 - k, or bit k in a sprite that is flipped. Byte k of these has that bit.
+const FROM_LEFT: u64 = 0x0102040810204080;
+
+const FROM_RIGHT: u64 = 0x8040201008040201;
+// 127 in each byte: one bit and 127 more is 128 or more.
+const ALMOST: u64 = 0x7F7F7F7F7F7F7F7F;
 // 3 in each byte: a colour and 3 more is 4 or more unless the colour is 0.
 const THREES: u64 = 0x0303030303030303;
 // 4 in each byte.
@@ -35,15 +37,6 @@ pub fn spread(b: u8) -> u64
 {
     let x = bits::wide64(b);
     (x * SPREAD & ONES) + (x >> 7)
-}
-
-// The bits of b, one in each byte, bit 0 leftmost.
-pub fn spread_back(b: u8) -> u64
-    ensures { λ r. ⌜ (r ≡ backOf b) × (r ≤ 0x0101010101010101) ⌝ }
-{
-    let low = bits::wide64(bits::low8(b, 7));
-    let high = bits::wide64(b >> 7);
-    (low * SPREAD_BACK & ONES) + high * RIGHTMOST
 }
 
 // The pixel numbers of eight colours: 0 where the colour is 0, else 4q + colour.
@@ -83,25 +76,29 @@ pub fn put_tile(row: &mut [u8], at: usize, low: u8, high: u8, palette: u8)
     put8(row, at, numbers(colours, bits::wide64(palette)));
 }
 
-// The colours from the left, or from the right where attribute bit 6 flips the sprite.
-fn sided(attribute: u8, plain: u64, flipped: u64) -> u64
-    requires { ⌜ (plain ≤ 0x0303030303030303) × (flipped ≤ 0x0303030303030303) ⌝ }
-    ensures { λ r. ⌜ (r ≡ cond (bit 64 attribute) flipped plain) × (r ≤ 0x0303030303030303) ⌝ }
+// The bits that the pixels take.
+fn order(flip: bool) -> u64
+    ensures { λ r. ⌜ (r ≡ cond flip 0x8040201008040201 0x0102040810204080) × (r ≤ 0x8040201008040201) ⌝ }
 {
-    if bits::bit(attribute, 6) {
-        return flipped;
-    }
-    plain
+    if flip { FROM_RIGHT } else { FROM_LEFT }
+}
+
+// The bits of b, one in each byte, bit 7 leftmost, or bit 0 if the sprite is flipped.
+fn sided(b: u8, flip: bool) -> u64
+    ensures { λ r. ⌜ (r ≡ cond flip (backOf b) (spreadOf b)) × (r ≤ 0x0101010101010101) ⌝ }
+{
+    let x = bits::wide64(b);
+    ((x * ONES & order(flip)) + ALMOST) >> 7 & ONES
 }
 
 // The eight pixels of a sprite's row: 0, or 16 + 4 × palette + colour, and 32 more where attribute bit 5 puts it behind.
 pub fn sprite_bytes(s: Sprite) -> u64
     ensures { λ r. ⌜ r ≡ pack (λ (j : ℕ). numberOf (4 + s .attribute % 4 + s .attribute / 32 % 2 * 8) (colourOf (s .low) (s .high) (cond (bit 64 (s .attribute)) j (7 - j)))) 8 ⌝ }
 {
-    let plain = spread(s.low) + 2 * spread(s.high);
-    let flipped = spread_back(s.low) + 2 * spread_back(s.high);
+    let flip = bits::bit(s.attribute, 6);
+    let colours = sided(s.low, flip) + 2 * sided(s.high, flip);
     let q = 4 + bits::low8(s.attribute, 2) + bits::field(s.attribute, 5, 1) * 8;
-    numbers(sided(s.attribute, plain, flipped), bits::wide64(q))
+    numbers(colours, bits::wide64(q))
 }
 
 // The old pixel if it is opaque, else the new one.
