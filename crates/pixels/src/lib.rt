@@ -20,9 +20,9 @@ use model::Sprite;
 const ONES: u64 = 0x0101010101010101;
 // Times a byte: its bit 7 - k, for k from 1 to 7, comes to the lowest bit of byte k, 9k - 7 places up. No two bits meet.
 const SPREAD: u64 = 0x0100804020100804;
-// Which bit of a byte pixel k takes: bit 7 - k, or bit k in a sprite that is flipped. Byte k of these has that bit.
+// Byte k has bit 7 - k: the bit of a byte that pixel k takes.
 const FROM_LEFT: u64 = 0x0102040810204080;
-
+// Byte k has bit k: the one that it takes in a sprite that is flipped.
 const FROM_RIGHT: u64 = 0x8040201008040201;
 // 127 in each byte: one bit and 127 more is 128 or more.
 const ALMOST: u64 = 0x7F7F7F7F7F7F7F7F;
@@ -132,21 +132,21 @@ pub fn clear(row: &mut [u8], n: usize)
     }
 }
 
-// The sprites' pixel s over the background's pixel b; bit 5 of s says behind. Each test by itself picks one of two values, so that
-// eight pixels are merged with no branch. Within: bare, in_front.
-// Behind a background that is not opaque is in front of it.
+// The sprites' pixel s with no bit 5 where the background's pixel b is not opaque: there is nothing to be behind.
 fn bare(b: u8, s: u8) -> u8
     ensures { λ r. ⌜ r ≡ cond (eqb b 0) (s % 32) s ⌝ }
 {
     if b == 0 { bits::low8(s, 5) } else { s }
 }
 
+// b where bit 5 of s says behind, else s.
 fn in_front(b: u8, s: u8) -> u8
     ensures { λ r. ⌜ r ≡ cond (bit 32 s) b (s % 32) ⌝ }
 {
     if bits::bit(s, 5) { b } else { bits::low8(s, 5) }
 }
 
+// The sprites' pixel s over the background's pixel b. Each test picks one of two values, so that eight pixels are merged with no branch.
 fn merge_one(b: u8, s: u8) -> u8
     ensures { λ r. ⌜ r ≡ merged b s ⌝ }
 {
@@ -179,13 +179,14 @@ fn both(b: u8, s: u8) -> u8
     1
 }
 
-// The greater of two columns, and the lesser.
+// The greater of two columns.
 fn later(a: usize, b: usize) -> usize
     ensures { λ r. ⌜ (a ≤ r) × (b ≤ r) × (r ≡ cond (ltb a b) b a) ⌝ }
 {
     if a < b { b } else { a }
 }
 
+// The lesser of two columns.
 pub fn sooner(a: usize, b: usize) -> usize
     ensures { λ r. ⌜ (r ≤ a) × (r ≤ b) × (r ≡ cond (ltb a b) a b) ⌝ }
 {
