@@ -74,18 +74,11 @@ both-opaque b s h k = rw (lt-ltb 0 b (omega arith), lt-ltb 0 s (omega arith))
 
 pub ruleset both-cases = (both-no-background, both-no-sprite, both-opaque)
 
--- sided: flipped, or not
-pub sided-flipped : (attribute b f : ℕ) (t : Bool) → t ≡ bit 64 attribute → t ≡ true → f ≡ backOf b → f ≡ cond (bit 64 attribute) (backOf b) (spreadOf b)
-sided-flipped attribute b f t e d h = rw (← e, d) h
-
-pub sided-plain : (attribute b p : ℕ) (t : Bool) → t ≡ bit 64 attribute → t ≡ false → p ≡ spreadOf b → p ≡ cond (bit 64 attribute) (backOf b) (spreadOf b)
-sided-plain attribute b p t e d h = rw (← e, d) h
-
 -- sprite_bytes
-pub sprite-1 : (attribute low high l h c d q r : ℕ) → l ≡ cond (bit 64 attribute) (backOf low) (spreadOf low) → h ≡ cond (bit 64 attribute) (backOf high) (spreadOf high)
+pub sprite-1 : (attribute low high l h c d q r : ℕ) (f : Bool) → f ≡ bit 64 attribute → l ≡ cond f (backOf low) (spreadOf low) → h ≡ cond f (backOf high) (spreadOf high)
     → c ≡ attribute % 4 → d ≡ attribute / 32 % 2 → q ≡ 4 + c + d * 8 → r ≡ pixelsBy l h q
     → r ≡ pack (λ (j : ℕ). numberOf (4 + attribute % 4 + attribute / 32 % 2 * 8) (colourOf low high (cond (bit 64 attribute) j (7 - j)))) 8
-sprite-1 attribute low high l h c d q r i j k m n e = e ∙ rw (i, j, n, k, m) (sprite-pack (bit 64 attribute) low high (4 + attribute % 4 + attribute / 32 % 2 * 8))
+sprite-1 attribute low high l h c d q r f t i j k m n e = e ∙ rw (i, j, t, n, k, m) (sprite-pack (bit 64 attribute) low high (4 + attribute % 4 + attribute / 32 % 2 * 8))
 
 -- later, sooner: by the test
 module _ (a b : ℕ) where

@@ -1,7 +1,7 @@
--- A byte's eight bits, one in each byte of a word: the two constants, and each product tested at all 256 bytes.
+-- A byte's eight bits, one in each byte of a word: the constants, and each product tested at all 256 bytes.
 use Prim.Native.Nat.{ℕ, zero, suc, _+_, _-_, _*_, _/_, _%_, _^_, _<_, _≤_}
 use mathlib.Core.Path.{_≡_, refl}
-use mathlib.Core.Bool.{Bool, true, false, _&&_}
+use mathlib.Core.Bool.{Bool, true, false, cond, _&&_}
 use mathlib.Core.Logic.{⊎-elim}
 use native.Mathlib.Omega.{arith}
 use native.Mathlib.Nat.{le-of-suc-le-suc, not-suc-le-zero, eq-or-lt-of-le}
@@ -9,7 +9,6 @@ use lib.Dec.{T, eqb, eqb→eq}
 use lib.Bits.{bitAnd, and-le-r}
 use mir.Val.{Fits}
 use mir.Syntax.{w64}
-use Rattle.model.specs.Record.{bitByte}
 use Rattle.pixels.specs.Pack.{pack, spreadOf, backOf}
 use Rattle.pixels.proofs.Pack.{pack-le}
 
@@ -22,10 +21,6 @@ pub ones : pack (λ (k : ℕ). 1) 8 ≡ 0x0101010101010101
 unfolding pack
 ones = refl
 
-pub rightmost : pack (λ (k : ℕ). bitByte (eqb k 7)) 8 ≡ 0x0100000000000000
-unfolding pack
-rightmost = refl
-
 pub highest : pack (λ (k : ℕ). 128) 8 ≡ 0x8080808080808080
 unfolding pack
 highest = refl
@@ -34,11 +29,6 @@ highest = refl
 pub spread-moves : movesBy (λ (k : ℕ). 9 * k) 7 ≡ 0x0040201008040201
 unfolding movesBy
 spread-moves = refl
-
--- up by 7k, for k from 0 to 6: from bit k to bit 8k
-pub back-moves : movesBy (λ (k : ℕ). 7 * k) 7 ≡ 0x0000040810204081
-unfolding movesBy
-back-moves = refl
 
 -- a test passes at each number below n
 abbrev pub allBelow : (ℕ → Bool) → ℕ → Bool
@@ -66,11 +56,7 @@ pub spread-le : (b : ℕ) → spreadOf b ≤ 0x0101010101010101
 unfolding spreadOf
 spread-le b = rw (← ones) (pack-le (λ (k : ℕ). b / 2 ^ (7 - k) % 2) (λ (k : ℕ). 1) 8 (λ k lt. omega arith))
 
-pub back-le : (b : ℕ) → backOf b ≤ 0x0101010101010101
-unfolding backOf
-back-le b = rw (← ones) (pack-le (λ (k : ℕ). b / 2 ^ k % 2) (λ (k : ℕ). 1) 8 (λ k lt. omega arith))
-
--- a product and a mask that give each byte's bits, first bit 7 or first bit 0, by computing them at every byte; each byte is 0 or 1
+-- a product and a mask that give each byte's bits by computing them at every byte; each byte is 0 or 1
 abbrev spreadBy : ℕ → ℕ → ℕ → ℕ
 spreadBy s m x = bitAnd (x * s + x * 2 ^ 63 % 2 ^ 64) m / 128
 
@@ -80,16 +66,28 @@ spread-is s m x b t e h =
     let d : spreadBy s m x ≡ spreadOf b = rw e (eqb→eq (spreadBy s m b) (spreadOf b) (all-at (λ (k : ℕ). eqb (spreadBy s m k) (spreadOf k)) 256 t b h)) in
     (d, rw d (spread-le b))
 
-abbrev backBy : ℕ → ℕ → ℕ → ℕ → ℕ → ℕ
-backBy s m u x y = bitAnd (x * s) m + y * u
+-- one bit of b in each byte, by the order o, moved down to the byte's lowest place
+abbrev taken : ℕ → ℕ → ℕ
+taken o b = bitAnd ((bitAnd (b * 0x0101010101010101) o + 0x7F7F7F7F7F7F7F7F) / 128) 0x0101010101010101
 
-pub back-is : (s m u x y l h b : ℕ) → T (allBelow (λ (k : ℕ). eqb (backBy s m u (k % 128) (k / 128)) (backOf k)) 256) → x ≡ l → l ≡ b % 128 → y ≡ h → h ≡ b / 128 → b < 256
-    → (backBy s m u x y ≡ backOf b) × (backBy s m u x y ≤ 0x0101010101010101)
-back-is s m u x y l h b t i j e f lt =
-    let d : backBy s m u x y ≡ backOf b =
-    rw (i, j, e, f) (eqb→eq (backBy s m u (b % 128) (b / 128)) (backOf b) (all-at (λ (k : ℕ). eqb (backBy s m u (k % 128) (k / 128)) (backOf k)) 256 t b lt)) in
-    (d, rw d (back-le b))
+abbrev orderOf : Bool → ℕ
+orderOf flip = cond flip 0x8040201008040201 0x0102040810204080
 
--- the sum stays in a word
-pub back-fits : (s x y b : ℕ) → y ≡ b / 128 → b < 256 → Fits w64 (bitAnd (x * s) 0x0101010101010101 + y * 0x0100000000000000)
-back-fits s x y b e k = record { fits = omega (arith, and-le-r (x * s) 0x0101010101010101) }
+taken-all : (flip : Bool) → T (allBelow (λ (k : ℕ). eqb (taken (orderOf flip) k) (cond flip (backOf k) (spreadOf k))) 256)
+unfolding pack spreadOf backOf
+taken-all true = tt
+taken-all false = tt
+
+module _ (flip : Bool) (b x o : ℕ) (e : x ≡ b) (h : b < 256) (d : o ≡ orderOf flip) where
+  pub taken-is : taken o x ≡ cond flip (backOf b) (spreadOf b)
+  taken-is =
+      rw (e, d)
+      (eqb→eq (taken (orderOf flip) b) (cond flip (backOf b) (spreadOf b)) (all-at (λ (k : ℕ). eqb (taken (orderOf flip) k) (cond flip (backOf k) (spreadOf k))) 256 (taken-all flip) b h))
+
+pub taken-most : (a : ℕ) → bitAnd a 0x0101010101010101 ≤ 0x0101010101010101
+taken-most a = and-le-r a 0x0101010101010101
+
+pub taken-fits : (a o : ℕ) → o ≤ 0x8040201008040201 → Fits w64 (bitAnd a o + 0x7F7F7F7F7F7F7F7F)
+taken-fits a o h = record { fits = omega (arith, and-le-r a o) }
+
+pub ruleset taken-cases = (taken-is, taken-most, taken-fits)

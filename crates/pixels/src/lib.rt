@@ -1,7 +1,7 @@
 // Eight pixels in a 64-bit word, the leftmost in the lowest byte, and rows of pixels.
-// spread, spread_back, numbers: a byte's bits one to a byte; pixel numbers from two bytes' bits.
+// spread, numbers: a byte's bits one to a byte; pixel numbers from two bytes' bits.
 // put8, put_tile: eight pixels stored in a row; those of a background tile.
-// sprite_bytes, put_over: the eight pixels of a sprite's row; stored only where nothing opaque stands.
+// sprite_bytes, put_over: the eight pixels of a sprite's row, from either side (order, sided); stored only where nothing opaque stands.
 // clear, merge8, meets: the left columns hidden, eight columns of sprites over background, sprite 0 hit.
 ghost use mathlib.Core.Path.{_≡_};
 ghost use mathlib.Core.Bool.{cond, _&&_};
@@ -22,10 +22,12 @@ const ONES: u64 = 0x0101010101010101;
 const HIGHEST: u64 = 0x8080808080808080;
 // Times a byte: its bit 7 - k, for k from 0 to 6, comes to the highest bit of byte k, 9k places up. No two bits meet.
 const SPREAD: u64 = 0x0040201008040201;
-// Times a byte's low seven bits: bit k comes to the lowest bit of byte k, 7k places up. No two bits meet.
-const SPREAD_BACK: u64 = 0x0000040810204081;
-// 1 in the highest byte: the rightmost pixel.
-const RIGHTMOST: u64 = 0x0100000000000000;
+// Byte k has bit 7 - k: the bit of a byte that pixel k takes.
+const FROM_LEFT: u64 = 0x0102040810204080;
+// Byte k has bit k: the one that it takes in a sprite that is flipped.
+const FROM_RIGHT: u64 = 0x8040201008040201;
+// 127 in each byte: one bit and 127 more is 128 or more.
+const ALMOST: u64 = 0x7F7F7F7F7F7F7F7F;
 
 // The bits of b, one in each byte, bit 7 leftmost. Of what is moved up by 63 only bit 0 stays: that makes one product of all eight.
 pub fn spread(b: u8) -> u64
@@ -33,15 +35,6 @@ pub fn spread(b: u8) -> u64
 {
     let x = bits::wide64(b);
     (x * SPREAD + (x << 63) & HIGHEST) >> 7
-}
-
-// The bits of b, one in each byte, bit 0 leftmost.
-pub fn spread_back(b: u8) -> u64
-    ensures { λ r. ⌜ (r ≡ backOf b) × (r ≤ 0x0101010101010101) ⌝ }
-{
-    let low = bits::wide64(bits::low8(b, 7));
-    let high = bits::wide64(b >> 7);
-    (low * SPREAD_BACK & ONES) + high * RIGHTMOST
 }
 
 // The pixel numbers of eight colours, given by their low bits and their high bits: 0 where both are 0, else 4q + colour.
@@ -81,24 +74,28 @@ pub fn put_tile(row: &mut [u8], at: usize, low: u8, high: u8, palette: u8)
     put8(row, at, n);
 }
 
-// The bits of b from the left, or from the right where attribute bit 6 flips the sprite. Both are made, so that nothing is guessed.
-fn sided(attribute: u8, b: u8) -> u64
-    ensures { λ r. ⌜ (r ≡ cond (bit 64 attribute) (backOf b) (spreadOf b)) × (r ≤ 0x0101010101010101) ⌝ }
+// The bits that the pixels take.
+fn order(flip: bool) -> u64
+    ensures { λ r. ⌜ (r ≡ cond flip 0x8040201008040201 0x0102040810204080) × (r ≤ 0x8040201008040201) ⌝ }
 {
-    let plain = spread(b);
-    let flipped = spread_back(b);
-    if bits::bit(attribute, 6) {
-        return flipped;
-    }
-    plain
+    if flip { FROM_RIGHT } else { FROM_LEFT }
+}
+
+// The bits of b, one in each byte, bit 7 leftmost, or bit 0 if the sprite is flipped.
+fn sided(b: u8, flip: bool) -> u64
+    ensures { λ r. ⌜ (r ≡ cond flip (backOf b) (spreadOf b)) × (r ≤ 0x0101010101010101) ⌝ }
+{
+    let x = bits::wide64(b);
+    ((x * ONES & order(flip)) + ALMOST) >> 7 & ONES
 }
 
 // The eight pixels of a sprite's row: 0, or 16 + 4 × palette + colour, and 32 more where attribute bit 5 puts it behind.
 pub fn sprite_bytes(s: Sprite) -> u64
     ensures { λ r. ⌜ r ≡ pack (λ (j : ℕ). numberOf (4 + s .attribute % 4 + s .attribute / 32 % 2 * 8) (colourOf (s .low) (s .high) (cond (bit 64 (s .attribute)) j (7 - j)))) 8 ⌝ }
 {
-    let low = sided(s.attribute, s.low);
-    let high = sided(s.attribute, s.high);
+    let flip = bits::bit(s.attribute, 6);
+    let low = sided(s.low, flip);
+    let high = sided(s.high, flip);
     let q = 4 + bits::low8(s.attribute, 2) + bits::field(s.attribute, 5, 1) * 8;
     numbers(low, high, bits::wide64(q))
 }
@@ -134,21 +131,21 @@ pub fn clear(row: &mut [u8], n: usize)
     }
 }
 
-// The sprites' pixel s over the background's pixel b; bit 5 of s says behind. Each test by itself picks one of two values, so that
-// eight pixels are merged with no branch. Within: bare, in_front.
-// Behind a background that is not opaque is in front of it.
+// The sprites' pixel s with no bit 5 where the background's pixel b is not opaque: there is nothing to be behind.
 fn bare(b: u8, s: u8) -> u8
     ensures { λ r. ⌜ r ≡ cond (eqb b 0) (s % 32) s ⌝ }
 {
     if b == 0 { bits::low8(s, 5) } else { s }
 }
 
+// b where bit 5 of s says behind, else s.
 fn in_front(b: u8, s: u8) -> u8
     ensures { λ r. ⌜ r ≡ cond (bit 32 s) b (s % 32) ⌝ }
 {
     if bits::bit(s, 5) { b } else { bits::low8(s, 5) }
 }
 
+// The sprites' pixel s over the background's pixel b. Each test picks one of two values, so that eight pixels are merged with no branch.
 fn merge_one(b: u8, s: u8) -> u8
     ensures { λ r. ⌜ r ≡ merged b s ⌝ }
 {
@@ -181,13 +178,14 @@ fn both(b: u8, s: u8) -> u8
     1
 }
 
-// The greater of two columns, and the lesser.
+// The greater of two columns.
 fn later(a: usize, b: usize) -> usize
     ensures { λ r. ⌜ (a ≤ r) × (b ≤ r) × (r ≡ cond (ltb a b) b a) ⌝ }
 {
     if a < b { b } else { a }
 }
 
+// The lesser of two columns.
 pub fn sooner(a: usize, b: usize) -> usize
     ensures { λ r. ⌜ (r ≤ a) × (r ≤ b) × (r ≡ cond (ltb a b) a b) ⌝ }
 {

@@ -1,28 +1,27 @@
-use Rattle.pixels.proofs.Cases.{sided-flipped, sided-plain}
+use Rattle.pixels.proofs.Spreads.{taken-cases}
 use borrow.Author.Needs.{needs}
 use Rattle.pixels.proofs.sided.Statement.{statement}
 use Rattle.pixels.proofs.sided.Tie as tie
 use Rattle.pixels.proofs.sided.Reads as reads
 use Rattle.pixels.proofs.sided.Lts as lts
-use Rattle.bits.proofs.bit.Reads as bit-reads
-use Rattle.pixels.proofs.spread.Reads as spread-reads
-use Rattle.pixels.proofs.spread_back.Reads as spread-back-reads
+use Rattle.bits.proofs.wide64.Reads as wide64-reads
+use Rattle.pixels.proofs.order.Reads as order-reads
 
-spread-requires : tie.Need-spread-requires
-spread-requires c κs = search needs
+wide64-requires : tie.Need-wide64-requires
+wide64-requires c κs = search needs
 
-spread-back-requires : tie.Need-spread-back-requires
-spread-back-requires c κs = search needs
+mul-result : tie.Need-mul-result
+mul-result c = search needs
 
-bit-requires : tie.Need-bit-requires
-bit-requires c κs = search needs
+order-requires : tie.Need-order-requires
+order-requires c κs = search needs
+
+add-result : tie.Need-add-result
+add-result c = search taken-cases
 
 returns : tie.Need-returns
-returns c = (search sided-flipped, search needs)
-
-returns-2 : tie.Need-returns-2
-returns-2 c = (search sided-plain, search needs)
+returns c = (search taken-cases, search taken-cases)
 
 pub sided-spec : {M : Type 1} → statement M
 sided-spec =
-    tie.close (tie.spec spread-requires spread-back-requires bit-requires returns returns-2)
+    tie.close (tie.spec wide64-requires mul-result order-requires add-result returns)

@@ -4,11 +4,15 @@ use Rattle.pixels.proofs.sprite_bytes.Statement.{statement}
 use Rattle.pixels.proofs.sprite_bytes.Tie as tie
 use Rattle.pixels.proofs.sprite_bytes.Reads as reads
 use Rattle.pixels.proofs.sprite_bytes.Lts as lts
+use Rattle.bits.proofs.bit.Reads as bit-reads
 use Rattle.bits.proofs.field.Reads as field-reads
 use Rattle.bits.proofs.low8.Reads as low8-reads
 use Rattle.bits.proofs.wide64.Reads as wide64-reads
 use Rattle.pixels.proofs.numbers.Reads as numbers-reads
 use Rattle.pixels.proofs.sided.Reads as sided-reads
+
+bit-requires : tie.Need-bit-requires
+bit-requires c κs = search needs
 
 sided-requires : tie.Need-sided-requires
 sided-requires c κs = search needs
@@ -38,12 +42,13 @@ numbers-requires : tie.Need-numbers-requires
 numbers-requires c κs = search needs
 
 returns : tie.Need-returns
-returns c = let s = c .before .before .before .before .before .before .args .s in search (sprite-1 (s .attribute) (s .low) (s .high))
+returns c = let s = c .before .before .before .before .before .before .before .args .s in search (sprite-1 (s .attribute) (s .low) (s .high))
 
 pub sprite-bytes-spec : {M : Type 1} → statement M
 sprite-bytes-spec =
     tie.close
     (tie.spec
+    bit-requires
     sided-requires
     sided-requires-2
     low8-requires
