@@ -118,20 +118,24 @@ unfolding drawnUnit statusOf
 after-drawn u x hit over v v′ s s′ on e₁ e₂ e₃ e₄ d l r n o eh ev = d ∙ rw (e₄, e₃, e₂, e₁, eh, ev, on)
 
 -- a line that is not drawn
-module _ (u x : Ppu) (l r n o b b′ : List ℕ) (h : ltb (u .scanline) 240 && isRendering u ≡ false) where
+module _ (u x : Ppu) (b b′ : List ℕ) (h : ltb (u .scanline) 240 && isRendering u ≡ false) where
   off : u .scanline < 240 → isRendering u ≡ false
   off k = sym (ap (λ (z : Bool). z && isRendering u) (lt-ltb (u .scanline) 240 k)) ∙ h
 
-  pub undrawn-1 : u .scanline < 240 → LineLengths (u .board) l r n o b → length b′ ≡ length b → ((p : ℕ) → getD b′ p 0 ≡ cond (ltb p 256) 0 (getD b p 0))
-      → x ≡ withScanline u (u .scanline + 1) → state x (lineMemory l r n o b′) ≡ oneLine (state u (lineMemory l r n o b))
+  pub undrawn-1 : u .scanline < 240 → length b ≡ 256 → length b′ ≡ length b → ((p : ℕ) → getD b′ p 0 ≡ cond (ltb p 256) 0 (getD b p 0))
+      → x ≡ withScanline u (u .scanline + 1) → (l r n o : List ℕ) → state x (lineMemory l r n o b′) ≡ oneLine (state u (lineMemory l r n o b))
   unfolding oneLine drawnLine drawnUnit statusOf marked
-  undrawn-1 k long e c d = rw (d, drawn-off u l r n o b b′ (off k) (e ∙ long .line) c, lt-ltb (u .scanline) 240 k, off k)
+  undrawn-1 k long e c d l r n o = rw (d, drawn-off u l r n o b b′ (off k) (e ∙ long) c, lt-ltb (u .scanline) 240 k, off k)
 
-  pub undrawn-2 : 240 ≤ u .scanline → x ≡ blankUnit u → b′ ≡ b → state x (lineMemory l r n o b′) ≡ oneLine (state u (lineMemory l r n o b))
+  pub undrawn-2 : 240 ≤ u .scanline → x ≡ blankUnit u → b′ ≡ b → (l r n o : List ℕ) → state x (lineMemory l r n o b′) ≡ oneLine (state u (lineMemory l r n o b))
   unfolding oneLine
-  undrawn-2 k e d = rw (e, d, le-ltb (u .scanline) 240 k)
+  undrawn-2 k e d l r n o = rw (e, d, le-ltb (u .scanline) 240 k)
 
 pub ruleset undrawn-cases = (undrawn-1, undrawn-2)
+
+pub line-2 : (u x : Ppu) (b b′ l r n o : List ℕ) → ((l r n o : List ℕ) → state x (lineMemory l r n o b′) ≡ oneLine (state u (lineMemory l r n o b)))
+    → state x (lineMemory l r n o b′) ≡ oneLine (state u (lineMemory l r n o b))
+line-2 u x b b′ l r n o e = e l r n o
 
 -- a run: after i lines
 pub record Running (l r n o : List ℕ) (most : ℕ) (u₀ : Ppu) (b₀ b : List ℕ) (u : Ppu) (i : ℕ) : Type 0 where

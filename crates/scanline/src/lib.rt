@@ -207,7 +207,7 @@ fn draws(u: Ppu) -> bool
 // The unit after a line that was drawn, from the flags that it found.
 fn drawn(u: Ppu, hit: bool, over: bool) -> Ppu
     requires { ⌜ (u .v < 32768) × (u .scanline < 240) × (isRendering u ≡ true) ⌝ }
-    ensures { λ r. ⌜ ((l r′ n o : List ℕ) → hit ≡ anyOf (hitOf u l r′ n o) lineLength → over ≡ overflows (u .control) o (u .scanline) → r ≡ drawnUnit u l r′ n o) ⌝ }
+    ensures { λ x. ⌜ ((l r n o : List ℕ) → hit ≡ anyOf (hitOf u l r n o) lineLength → over ≡ overflows (u .control) o (u .scanline) → x ≡ drawnUnit u l r n o) ⌝ }
 {
     let down = unit::copy_side(u.t, unit::row_down(u.v));
     let status = with_overflow(with_hit(u.status, hit), over);
@@ -221,9 +221,9 @@ fn drawn(u: Ppu, hit: bool, over: bool) -> Ppu
 }
 
 // A line that is not drawn: all zero from 0 to 239, untouched from 240 on; and the unit after it.
-fn undrawn(u: Ppu, left: &[u8], right: &[u8], nametables: &[u8], oam: &[u8], line: &mut [u8]) -> Ppu
-    requires { ⌜ LineLengths (u .board) (now left) (now right) (now nametables) (now oam) (now line) × (isWellFormed u ≡ true) × (ltb (u .scanline) 240 && isRendering u ≡ false) ⌝ }
-    ensures { λ r. ⌜ state r (lineMemory (now (left .entry)) (now (right .entry)) (now (nametables .entry)) (now (oam .entry)) (now (line .exit))) ≡ oneLine (state u (lineMemory (now (left .entry)) (now (right .entry)) (now (nametables .entry)) (now (oam .entry)) (now (line .entry)))) ⌝ }
+fn undrawn(u: Ppu, line: &mut [u8]) -> Ppu
+    requires { ⌜ (length (now line) ≡ 256) × (isWellFormed u ≡ true) × (ltb (u .scanline) 240 && isRendering u ≡ false) ⌝ }
+    ensures { λ x. ⌜ ((l r n o : List ℕ) → state x (lineMemory l r n o (now (line .exit))) ≡ oneLine (state u (lineMemory l r n o (now (line .entry))))) ⌝ }
 {
     if u.scanline < 240 {
         pixels::clear(line, 256);
@@ -264,7 +264,7 @@ pub fn one_line(
         );
         return drawn(u, f.hit, f.over);
     }
-    undrawn(u, left, right, nametables, oam, line)
+    undrawn(u, line)
 }
 
 // n lines.
@@ -302,7 +302,7 @@ pub fn run(
             next = drawn(next, f.hit, f.over);
             continue;
         }
-        next = undrawn(next, left, right, nametables, oam, line);
+        next = undrawn(next, line);
     }
     next
 }

@@ -1,4 +1,4 @@
-use Rattle.scanline.proofs.Cases.{v-small, x-small, draws-not, drawn-low, drawn-shown, drawn-seen, line-1}
+use Rattle.scanline.proofs.Cases.{v-small, x-small, draws-not, drawn-low, drawn-shown, drawn-seen, line-1, line-2}
 use borrow.Author.Needs.{needs}
 use Rattle.scanline.proofs.one_line.Statement.{statement}
 use Rattle.scanline.proofs.one_line.Tie as tie
@@ -39,7 +39,7 @@ same-length-2 c = search needs
 
 -- src/lib.rt:263:1
 returns-2 : tie.Need-returns-2
-returns-2 c = search needs
+returns-2 c = search line-2
 
 pub one-line-spec : {M : Type 1} → statement M
 one-line-spec =

@@ -1,6 +1,6 @@
 use borrow.Author.Needs.{needs}
 use Prim.Native.Nat.{_-_}
-use Rattle.scanline.proofs.Cases.{Running, run-cases, v-small, x-small, draws-not, drawn-low, drawn-shown, drawn-seen, line-1}
+use Rattle.scanline.proofs.Cases.{Running, run-cases, v-small, x-small, draws-not, drawn-low, drawn-shown, drawn-seen, line-1, line-2}
 use Rattle.scanline.proofs.run.Statement.{statement}
 use Rattle.scanline.proofs.run.Tie as tie
 use Rattle.scanline.proofs.run.Reads as reads
@@ -54,7 +54,7 @@ loop-less-2 c = search needs
 
 -- src/lib.rt:297:5
 loop-again-2 : tie.Need-loop-again-2 Inv-loop μ-loop
-loop-again-2 c = search run-cases
+loop-again-2 c = search (run-cases, line-2)
 
 -- src/lib.rt:283:1
 same-length : tie.Need-same-length Inv-loop μ-loop

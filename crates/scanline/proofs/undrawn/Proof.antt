@@ -7,30 +7,30 @@ use Rattle.scanline.proofs.undrawn.Lts as lts
 use Rattle.pixels.proofs.clear.Reads as clear-reads
 use Rattle.unit.proofs.blank_line.Reads as blank-line-reads
 
--- src/lib.rt:253:9
+-- src/lib.rt:251:9
 clear-requires : tie.Need-clear-requires
 clear-requires c κs = search needs
 
--- src/lib.rt:255:23
-add-t11 : tie.Need-add-t11
-add-t11 c = search needs
+-- src/lib.rt:253:23
+add-t7 : tie.Need-add-t7
+add-t7 c = search needs
 
--- src/lib.rt:254:9
+-- src/lib.rt:252:9
 same-length : tie.Need-same-length
 same-length c = search needs
 
--- src/lib.rt:254:9
+-- src/lib.rt:252:9
 returns : tie.Need-returns
 returns c = search undrawn-cases
 
--- src/lib.rt:259:5
+-- src/lib.rt:257:5
 blank-line-requires : tie.Need-blank-line-requires
 blank-line-requires c κs = search scanline-small
 
--- src/lib.rt:241:1
+-- src/lib.rt:246:1
 returns-2 : tie.Need-returns-2
 returns-2 c = search undrawn-cases
 
 pub undrawn-spec : {M : Type 1} → statement M
 undrawn-spec =
-    tie.close (tie.spec clear-requires add-t11 same-length returns blank-line-requires returns-2)
+    tie.close (tie.spec clear-requires add-t7 same-length returns blank-line-requires returns-2)
