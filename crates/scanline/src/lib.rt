@@ -131,7 +131,8 @@ fn sprites_shown(u: Ppu, left: &[u8], right: &[u8], oam: &[u8], line: &mut [u8])
 }
 
 // The 256 pixel numbers of a line with mask bit 3 or 4, and the flags. It takes the parts of the unit that it needs, and both its callers
-// call it directly: so it is the one function of a line that stays a call, and the unit need not go through memory.
+// call it directly: so it is the one function of a line that stays a call, and the unit need not go through memory. Nor need the slices,
+// since they are borrowed anew.
 fn draw(
     control: u8,
     mask: u8,
@@ -165,12 +166,10 @@ fn draw(
         warm: false,
         board: board,
     };
-    // borrowed anew, the slices come here in registers
     let l = &*left;
     let r = &*right;
-    let n = &*nametables;
     let o = &*oam;
-    background_shown(u, l, r, n, o, line);
+    background_shown(u, l, r, &*nametables, o, line);
     sprites_shown(u, l, r, o, line)
 }
 
