@@ -117,7 +117,7 @@ fn sprites_shown(u: Ppu, left: &[u8], right: &[u8], oam: &[u8], line: &mut [u8])
 {
     let n = u.scanline as u8;
     let mut list = [0u8; 65];
-    let c = sprites::choose(u.control, n, oam, &mut list);
+    let c = choice::choose(u.control, n, oam, &mut list);
     let count = c.count;
     let over = c.over;
     if bits::bit(u.mask, 4) {

@@ -1,5 +1,3 @@
-pub mod Places
-pub mod Loops
 pub mod Winner
 pub mod Row
 pub mod Merge

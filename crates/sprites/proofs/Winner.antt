@@ -19,7 +19,7 @@ use Rattle.pixels.specs.Row.{placed, meetsOf}
 use Rattle.pixels.proofs.Over.{over-none, placed-shade}
 use Rattle.pixels.proofs.Hit.{meets-none, meets-cong}
 use Rattle.sprites.specs.Row.{shownOn, Beside}
-use Rattle.sprites.proofs.Places.{places-at, length-places, count-first}
+use Rattle.choice.proofs.Places.{places-at, length-places, count-first}
 
 -- the winner stays under one sprite more
 kept : (o v : ℕ) (b : Bool) → eqb o 0 ≡ b → (w r : ℕ) → r ≡ cond (eqb w 0) v w → cond b r o ≡ cond (eqb (cond b w o) 0) v (cond b w o)

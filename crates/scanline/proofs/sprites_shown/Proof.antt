@@ -7,7 +7,7 @@ use Rattle.scanline.proofs.sprites_shown.Reads as reads
 use Rattle.scanline.proofs.sprites_shown.Lts as lts
 use Rattle.bits.proofs.bit.Reads as bit-reads
 use Rattle.scanline.proofs.sprites_on.Reads as sprites-on-reads
-use Rattle.sprites.proofs.choose.Reads as choose-reads
+use Rattle.choice.proofs.choose.Reads as choose-reads
 
 -- src/lib.rt:138:13
 cast-n : tie.Need-cast-n

@@ -5,7 +5,7 @@ use Rattle.sprites.proofs.covering.Tie as tie
 use Rattle.sprites.proofs.covering.Reads as reads
 use Rattle.sprites.proofs.covering.Lts as lts
 use Rattle.bits.proofs.wide.Reads as wide-reads
-use Rattle.sprites.proofs.height.Reads as height-reads
+use Rattle.choice.proofs.height.Reads as height-reads
 
 mul-wide : tie.Need-mul-wide
 mul-wide c = search needs

@@ -7,7 +7,7 @@ use Rattle.sprites.proofs.row_of.Reads as reads
 use Rattle.sprites.proofs.row_of.Lts as lts
 use Rattle.bits.proofs.bit.Reads as bit-reads
 use Rattle.bits.proofs.wide.Reads as wide-reads
-use Rattle.sprites.proofs.height.Reads as height-reads
+use Rattle.choice.proofs.height.Reads as height-reads
 
 mul-wide : tie.Need-mul-wide
 mul-wide c = search needs
