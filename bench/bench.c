@@ -260,8 +260,13 @@ static void print_runs(double (*ns)[DRAWERS])
 {
     printf("\n`ppu_run`, pictures with about three sprites a line: ns a line by the lines of one call\n\n");
     printf("| lines a call | ns a line | of the ns a line with 262 |\n|---|---|---|\n");
-    for (int i = 0; i < RUNS; i++)
+    double least = ns[0][0], most = ns[0][0];
+    for (int i = 0; i < RUNS; i++) {
         printf("| %s | %.1f | %.3f |\n", runs[i].name, ns[i][0], ns[i][0] / ns[1][0]);
+        least = ns[i][0] < least ? ns[i][0] : least;
+        most = ns[i][0] > most ? ns[i][0] : most;
+    }
+    printf("\nn lines cost n times a line: taken as %.1f ns, it fits all of them within %.1f %%.\n", (most + least) / 2, 100 * (most - least) / (most + least));
 }
 
 enum { BLOCKS = 10 };
