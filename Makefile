@@ -15,7 +15,7 @@
 PREFIX = /usr/local
 ARCHIVE = target/staticlib/libppu.a
 PLAYER = target/bin/player
-VERSION = 1.0.0
+VERSION := $(shell sed -n 's/^\#define PPU_VERSION "\(.*\)"/\1/p' include/ppu.h)
 CFLAGS = -O2
 
 crates := $(shell find crates crates.txt)

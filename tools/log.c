@@ -231,7 +231,7 @@ static Options read_options(int count, char **arguments)
         case 'b': o.board = (uint8_t)number_of("--board", optarg, 0, 255); break;
         case 'o': o.output = optarg; break;
         case 'h': fputs(help, stdout); exit(fflush(stdout) ? BAD_FILE : DONE);
-        case 'V': puts("ppu-log " TOOLS_VERSION); exit(DONE);
+        case 'V': puts("ppu-log " PPU_VERSION); exit(DONE);
         default: bad_option(option, arguments);
         }
     if (optind == count)

@@ -304,7 +304,7 @@ static void set_option(int option, const char *argument)
     case 'x': o->strict = 1; break;
     case 'y': o->summary = 1; break;
     case 'h': fputs(help, stdout); fputs(help_numbers, stdout); exit(DONE);
-    case 'V': puts("ppu-picture " TOOLS_VERSION); exit(DONE);
+    case 'V': puts("ppu-picture " PPU_VERSION); exit(DONE);
     }
 }
 

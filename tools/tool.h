@@ -4,8 +4,6 @@
 
 #include <stdio.h>
 
-#define TOOLS_VERSION "1.0"
-
 /* exit statuses; --help of each command lists its own */
 enum { DONE = 0, REFUSED = 1, BAD_USAGE = 2, BAD_FILE = 3, BAD_LOG = 4, NO_PICTURE = 5 };
 
