@@ -1,5 +1,5 @@
 -- The ways of each function, for `search`.
-use Prim.Native.Nat.{ℕ, _+_, _-_, _*_, _/_, _%_, _<_, _≤_}
+use Prim.Native.Nat.{ℕ, _+_, _<_, _≤_}
 use mathlib.Core.Path.{_≡_, refl, sym, ap, _∙_}
 use mathlib.Core.Bool.{Bool, true, false, true≢false, cond, _&&_}
 use mathlib.Core.List.{List}
@@ -11,14 +11,12 @@ use borrow.Author.Tests.{lt-ltb, le-ltb, ltb-true}
 use Rattle.model.specs.declared.Ppu.{Ppu}
 use Rattle.model.specs.Unit.{unit, withScanline, State, state, lineMemory, bit, isRendering, isWellFormed}
 use Rattle.model.specs.Address.{tableOf}
-use Rattle.model.specs.Scroll.{rowDown, copySide}
 use Rattle.model.specs.Background.{backgroundAt}
 use Rattle.model.specs.Sprites.{overflows}
-use Rattle.model.specs.Line.{tab, anyOf, marked, hitOf, statusOf, pixelOf, picture, drawnUnit, drawnLine, blankUnit, oneLine, linesRun, untilVblank, nmiCount}
-use Rattle.model.proofs.Scroll.{down-lt}
+use Rattle.model.specs.Line.{tab, anyOf, marked, hitOf, statusOf, pixelOf, picture, drawnUnit, drawnLine, blankUnit, oneLine, linesRun}
 use Rattle.model.proofs.Kept.{well}
 use Rattle.model.proofs.Good.{good-of, line-good}
-use Rattle.model.proofs.Line.{line-board, until-formula}
+use Rattle.model.proofs.Line.{line-board}
 use Rattle.scanline.specs.Shown.{LineLengths, backOf, seen}
 use Rattle.scanline.proofs.Laws.{back-1, back-2, drawn-off}
 
@@ -45,20 +43,6 @@ sprites-off m b e f = sym e ∙ f
 pub skip-is : (m k : ℕ) (b : Bool) → b ≡ bit 4 m → k ≡ cond b 0 8 → k ≡ cond (bit 4 m) 0 8
 skip-is m k b e d = d ∙ rw e
 
--- the flags
-module _ (s r a : ℕ) (b : Bool) where
-  pub hit-set : b ≡ true → a ≡ s % 64 → r ≡ s / 128 * 128 + 64 + a → r ≡ marked 64 b s
-  unfolding marked
-  hit-set t e d = d ∙ rw (e, t)
-
-  pub over-set : b ≡ true → a ≡ s % 32 → r ≡ s / 64 * 64 + 32 + a → r ≡ marked 32 b s
-  unfolding marked
-  over-set t e d = d ∙ rw (e, t)
-
-pub unset : (k s : ℕ) (b : Bool) → b ≡ false → s ≡ marked k b s
-unfolding marked
-unset k s b f = rw f
-
 -- a well-formed unit's parts
 module _ (u : Ppu) (h : isWellFormed u ≡ true) where
   pub v-small : u .v < 32768
@@ -70,21 +54,8 @@ module _ (u : Ppu) (h : isWellFormed u ≡ true) where
   pub scanline-small : u .scanline < 262
   scanline-small = good-of u h .scanline
 
-pub down-small : (v v′ : ℕ) → v < 32768 → v′ ≡ rowDown v → v′ < 32768
-down-small v v′ h e = rw e (down-lt v h)
-
--- whether a line is drawn
-module _ (u : Ppu) where
-  pub draws-1 : (b : Bool) → u .scanline < 240 → b ≡ isRendering u → b ≡ (ltb (u .scanline) 240 && isRendering u)
-  draws-1 b h e = e ∙ rw (lt-ltb (u .scanline) 240 h)
-
-  pub draws-2 : 240 ≤ u .scanline → false ≡ (ltb (u .scanline) 240 && isRendering u)
-  draws-2 h = rw (le-ltb (u .scanline) 240 h)
-
 pub draws-not : (u : Ppu) (d : Bool) → d ≡ (ltb (u .scanline) 240 && isRendering u) → d ≡ false → ltb (u .scanline) 240 && isRendering u ≡ false
 draws-not u d e f = sym e ∙ f
-
-pub ruleset draws-cases = (draws-1, draws-2)
 
 and-parts : (a b : Bool) → a && b ≡ true → (a ≡ true) × (b ≡ true)
 and-parts true b h = (refl, h)
@@ -108,14 +79,6 @@ module _ (u : Ppu) (d : Bool) (ed : d ≡ (ltb (u .scanline) 240 && isRendering 
       → state x (lineMemory l r n o b′) ≡ oneLine (state u (lineMemory l r n o b))
   unfolding oneLine drawnLine picture pixelOf isRendering hitOf
   line-1 l r n o b b′ hit over x ep eh eo ex = rw (ep, ex l r n o eh eo, lt-ltb (u .scanline) 240 drawn-low)
-
--- the unit after it
-pub after-drawn : (u x : Ppu) (hit over : Bool) (v v′ s s′ : ℕ) → isRendering u ≡ true
-    → v ≡ rowDown (u .v) → v′ ≡ copySide (u .t) v → s ≡ marked 64 hit (u .status) → s′ ≡ marked 32 over s
-    → x ≡ unit (u .control) (u .mask) s′ 0 v′ (u .t) (u .x) (u .w) (u .buffer) (u .latch) (u .scanline + 1) (u .warm) (u .board)
-    → (l r n o : List ℕ) → hit ≡ anyOf (hitOf u l r n o) 256 → over ≡ overflows (u .control) o (u .scanline) → x ≡ drawnUnit u l r n o
-unfolding drawnUnit statusOf
-after-drawn u x hit over v v′ s s′ on e₁ e₂ e₃ e₄ d l r n o eh ev = d ∙ rw (e₄, e₃, e₂, e₁, eh, ev, on)
 
 -- a line that is not drawn
 module _ (u x : Ppu) (b b′ : List ℕ) (h : ltb (u .scanline) 240 && isRendering u ≡ false) where
@@ -177,22 +140,3 @@ module _ (l r n o : List ℕ) (most : ℕ) (u₀ : Ppu) (b₀ : List ℕ) where
       inv .so-far ∙ ap (λ (j : ℕ). linesRun j (state u₀ (lineMemory l r n o b₀))) e
 
 pub ruleset run-cases = (run-start, run-again, run-done)
-
--- how many lines a run runs
-module _ (u : Ppu) (n : ℕ) (b : Bool) (eb : b ≡ bit 128 (u .control)) where
-  module _ (k : ℕ) (h : u .scanline < 262) (ek : k ≡ (503 - u .scanline) % 262 + 1) where
-    formula : b ≡ true → nmiCount n u ≡ untilVblank (u .board) n (u .scanline)
-    unfolding nmiCount
-    formula t = rw (← eb, t)
-
-    pub count-1 : b ≡ true → n < k → n ≡ nmiCount n u
-    count-1 t lt = sym (formula t ∙ until-formula (u .board) n (u .scanline) (omega arith) ∙ omega arith)
-
-    pub count-2 : b ≡ true → k ≤ n → k ≡ nmiCount n u
-    count-2 t le = sym (formula t ∙ until-formula (u .board) n (u .scanline) (omega arith) ∙ omega arith)
-
-  pub count-3 : b ≡ false → n ≡ nmiCount n u
-  unfolding nmiCount
-  count-3 f = rw (← eb, f)
-
-pub ruleset count-cases = (count-1, count-2, count-3)

@@ -1,16 +1,16 @@
 // One line, and runs of lines. Inner functions, not public calls: they require the lengths and the well-formed unit
 // that a call has checked.
 // A drawn line: background_shown, zero_hits, overlay, sprites_on, sprites_shown, draw.
-// The unit after it: with_hit, with_overflow, drawn. Any line: draws, undrawn, one_line. Runs: run, until_vblank, nmi_count.
+// Any line: undrawn, one_line. Runs: run.
 ghost use mathlib.Core.Path.{_≡_};
 ghost use mathlib.Core.Bool.{cond, true, false, _&&_};
 ghost use mathlib.Core.List.{List, []};
-ghost use Prim.Native.Nat.{ℕ, _+_, _-_, _%_, _<_, _≤_};
+ghost use Prim.Native.Nat.{ℕ, _+_, _-_, _<_, _≤_};
 ghost use lib.Dec.{eqb, ltb};
 ghost use lib.ListN.{length, take};
 ghost use Rattle.model.specs.Unit.{state, lineMemory, lineLength, bit, isRendering, isWellFormed};
 ghost use Rattle.model.specs.Sprites.{covers, placesOf, overflows};
-ghost use Rattle.model.specs.Line.{tab, anyOf, marked, hitOf, picture, drawnUnit, oneLine, linesRun, nmiCount};
+ghost use Rattle.model.specs.Line.{tab, anyOf, hitOf, picture, oneLine, linesRun};
 ghost use Rattle.scanline.specs.Shown.{LineLengths, backOf, overLine, hitLine, seen};
 use model::Board;
 use model::Ppu;
@@ -173,52 +173,6 @@ fn draw(
     sprites_shown(u, l, r, o, line)
 }
 
-// Status with bit 6 set by a hit.
-fn with_hit(status: u8, hit: bool) -> u8
-    ensures { λ r. ⌜ r ≡ marked 64 hit status ⌝ }
-{
-    if hit {
-        return (status >> 7) * 128 + 64 + bits::low8(status, 6);
-    }
-    status
-}
-
-// Status with bit 5 set by overflow.
-fn with_overflow(status: u8, over: bool) -> u8
-    ensures { λ r. ⌜ r ≡ marked 32 over status ⌝ }
-{
-    if over {
-        return (status >> 6) * 64 + 32 + bits::low8(status, 5);
-    }
-    status
-}
-
-// The next line is 0 to 239, and mask bit 3 or 4 is set.
-fn draws(u: Ppu) -> bool
-    ensures { λ r. ⌜ r ≡ (ltb (u .scanline) 240 && isRendering u) ⌝ }
-{
-    if u.scanline < 240 {
-        return unit::rendering(u);
-    }
-    false
-}
-
-// The unit after a line that was drawn, from the flags that it found.
-fn drawn(u: Ppu, hit: bool, over: bool) -> Ppu
-    requires { ⌜ (u .v < 32768) × (u .scanline < 240) × (isRendering u ≡ true) ⌝ }
-    ensures { λ x. ⌜ ((l r n o : List ℕ) → hit ≡ anyOf (hitOf u l r n o) lineLength → over ≡ overflows (u .control) o (u .scanline) → x ≡ drawnUnit u l r n o) ⌝ }
-{
-    let down = unit::copy_side(u.t, unit::row_down(u.v));
-    let status = with_overflow(with_hit(u.status, hit), over);
-    Ppu {
-        status: status,
-        oamaddr: 0,
-        v: down,
-        scanline: u.scanline + 1,
-        ..u
-    }
-}
-
 // A line that is not drawn: all zero from 0 to 239, untouched from 240 on; and the unit after it.
 fn undrawn(u: Ppu, line: &mut [u8]) -> Ppu
     requires { ⌜ (length (now line) ≡ 256) × (isWellFormed u ≡ true) × (ltb (u .scanline) 240 && isRendering u ≡ false) ⌝ }
@@ -231,7 +185,7 @@ fn undrawn(u: Ppu, line: &mut [u8]) -> Ppu
             ..u
         };
     }
-    unit::blank_line(u)
+    lines::blank_line(u)
 }
 
 // One line.
@@ -246,7 +200,7 @@ pub fn one_line(
     requires { ⌜ LineLengths (u .board) (now left) (now right) (now nametables) (now oam) (now line) × (isWellFormed u ≡ true) ⌝ }
     ensures { λ r. ⌜ state r (lineMemory (now (left .entry)) (now (right .entry)) (now (nametables .entry)) (now (oam .entry)) (now (line .exit))) ≡ oneLine (state u (lineMemory (now (left .entry)) (now (right .entry)) (now (nametables .entry)) (now (oam .entry)) (now (line .entry)))) ⌝ }
 {
-    if draws(u) {
+    if lines::draws(u) {
         let board = u.board;
         let f = draw(
             u.control,
@@ -261,7 +215,7 @@ pub fn one_line(
             oam,
             line,
         );
-        return drawn(u, f.hit, f.over);
+        return lines::drawn(u, f.hit, f.over);
     }
     undrawn(u, line)
 }
@@ -283,7 +237,7 @@ pub fn run(
     let mut i: u16 = 0;
     while i < n {
         i += 1;
-        if draws(next) {
+        if lines::draws(next) {
             let board = next.board;
             let f = draw(
                 next.control,
@@ -298,36 +252,10 @@ pub fn run(
                 oam,
                 line,
             );
-            next = drawn(next, f.hit, f.over);
+            next = lines::drawn(next, f.hit, f.over);
             continue;
         }
         next = undrawn(next, line);
     }
     next
-}
-
-// The lines from next line p until line 241 has run.
-fn until_vblank(p: u16) -> u16
-    requires { ⌜ p < 262 ⌝ }
-    ensures { λ r. ⌜ r ≡ (503 - p) % 262 + 1 ⌝ }
-{
-    if p <= 241 {
-        return 242 - p;
-    }
-    504 - p
-}
-
-// The lines that a run of at most n runs, if control bit 7 stops it after line 241.
-pub fn nmi_count(u: Ppu, n: u16) -> u16
-    requires { ⌜ u .scanline < 262 ⌝ }
-    ensures { λ r. ⌜ r ≡ nmiCount n u ⌝ }
-{
-    if bits::bit(u.control, 7) {
-        let most = until_vblank(u.scanline);
-        if n < most {
-            return n;
-        }
-        return most;
-    }
-    n
 }

@@ -7,9 +7,8 @@ use lib.Dec.{eqb, ltb}
 use borrow.Author.Tests.{eq-eqb, ne-eqb, lt-ltb, le-ltb}
 use Rattle.model.specs.declared.Ppu.{Ppu}
 use Rattle.model.specs.declared.Access.{Access}
-use Rattle.model.specs.Unit.{unit, withStatus, withScanline, bit, lastLine, isRendering, isDrawing, isWellFormed, nmiLevel}
+use Rattle.model.specs.Unit.{bit, isRendering, isDrawing, isWellFormed, nmiLevel}
 use Rattle.model.specs.Scroll.{turn10, turn11, rowDown, right, copySide}
-use Rattle.model.specs.Line.{idleLine, vblankLine, preRenderLine, blankUnit}
 use Rattle.model.specs.Calls.{answer, access, doneAnswer}
 
 pub rendering-1 : (u : Ppu) (k : ℕ) → k ≡ u .mask / 8 % 4 → not (eqb k 0) ≡ isRendering u
@@ -100,35 +99,6 @@ side-1 t v r a b d ea eb ed e = e ∙ omega arith
 pub ruleset down-cases = (down-1, down-2, down-3, down-4)
 
 pub ruleset right-cases = (right-1, right-2)
-
--- lines that draw nothing
-module _ (u r : Ppu) (d : Bool) where
-  pub pre-1 : d ≡ isRendering u → d ≡ true
-      → r ≡ unit (u .control) (u .mask) 0 0 (u .t) (u .t) (u .x) (u .w) (u .buffer) (u .latch) 0 true (u .board) → r ≡ preRenderLine u
-  unfolding preRenderLine
-  pre-1 e p g = g ∙ rw (← e, p)
-
-  pub pre-2 : d ≡ isRendering u → d ≡ false
-      → r ≡ unit (u .control) (u .mask) 0 (u .oamaddr) (u .v) (u .t) (u .x) (u .w) (u .buffer) (u .latch) 0 true (u .board) → r ≡ preRenderLine u
-  unfolding preRenderLine
-  pre-2 e p g = g ∙ rw (← e, p)
-
-pub ruleset pre-cases = (pre-1, pre-2)
-
-module _ (u r : Ppu) where
-  pub blank-1 : (k : ℕ) → u .scanline ≡ 241 → k ≡ u .status % 128 → r ≡ withScanline (withStatus u (k + 128)) (u .scanline + 1) → r ≡ blankUnit u
-  unfolding blankUnit vblankLine
-  blank-1 k p f e = e ∙ rw (f, eq-eqb (u .scanline) 241 p)
-
-  pub blank-2 : (u .scanline ≡ 241 → ⊥) → u .scanline ≡ 261 → r ≡ preRenderLine u → r ≡ blankUnit u
-  unfolding blankUnit
-  blank-2 p q e = e ∙ rw (ne-eqb (u .scanline) 241 p, eq-eqb (u .scanline) (lastLine (u .board)) q)
-
-  pub blank-3 : (u .scanline ≡ 241 → ⊥) → (u .scanline ≡ 261 → ⊥) → r ≡ withScanline u (u .scanline + 1) → r ≡ blankUnit u
-  unfolding blankUnit idleLine
-  blank-3 p q e = e ∙ rw (ne-eqb (u .scanline) 241 p, ne-eqb (u .scanline) (lastLine (u .board)) q)
-
-pub ruleset blank-cases = (blank-1, blank-2, blank-3)
 
 -- a call that is done, by the NMI level that the code found
 pub done-1 : (b k : ℕ) (u : Ppu) (n : Bool) (r : Access) → n ≡ nmiLevel u → r ≡ access (answer 0 b k n) u → r ≡ access (doneAnswer b k u) u

@@ -1,11 +1,10 @@
 // The unit by itself: Ppu -> Ppu, no memory. Inner functions, not public calls.
 // rendering, drawing, well_formed, nmi; v's steps: row_down, column_right, copy_side;
-// lines that draw nothing: blank_line; what a call hands back: done, refused.
+// what a call hands back: done, refused.
 ghost use mathlib.Core.Path.{_≡_};
 ghost use Prim.Native.Nat.{_+_, _*_, _/_, _%_, _<_};
 ghost use Rattle.model.specs.Unit.{isRendering, isDrawing, isWellFormed, nmiLevel};
 ghost use Rattle.model.specs.Scroll.{turn10, turn11, rowDown, right, copySide};
-ghost use Rattle.model.specs.Line.{preRenderLine, blankUnit};
 ghost use Rattle.model.specs.Calls.{access, doneAnswer, refusedAccess};
 use model::Access;
 use model::Answer;
@@ -119,49 +118,6 @@ pub fn copy_side(t: u16, v: u16) -> u16
 {
     let up = (v >> 11) * 2048 + bits::low16(v >> 5, 5) * 32;
     up + bits::low16(t >> 10, 1) * 1024 + bits::low16(t, 5)
-}
-
-// The unit after line 261.
-fn pre_render(u: Ppu) -> Ppu
-    ensures { λ r. ⌜ r ≡ preRenderLine u ⌝ }
-{
-    if rendering(u) {
-        return Ppu {
-            status: 0,
-            oamaddr: 0,
-            v: u.t,
-            scanline: 0,
-            warm: true,
-            ..u
-        };
-    }
-    Ppu {
-        status: 0,
-        scanline: 0,
-        warm: true,
-        ..u
-    }
-}
-
-// The unit after a line from 240 on.
-pub fn blank_line(u: Ppu) -> Ppu
-    requires { ⌜ u .scanline < 262 ⌝ }
-    ensures { λ r. ⌜ r ≡ blankUnit u ⌝ }
-{
-    if u.scanline == 241 {
-        return Ppu {
-            status: bits::low8(u.status, 7) + 128,
-            scanline: u.scanline + 1,
-            ..u
-        };
-    }
-    if u.scanline == 261 {
-        return pre_render(u);
-    }
-    Ppu {
-        scanline: u.scanline + 1,
-        ..u
-    }
 }
 
 // A call that is done: its byte, its line count, and the NMI level after it.

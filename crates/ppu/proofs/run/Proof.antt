@@ -8,7 +8,7 @@ use Rattle.refusals.proofs.line_sizes.Reads as line-sizes-reads
 use Rattle.refusals.proofs.plain_refusal.Reads as plain-refusal-reads
 use Rattle.ppu.proofs.run_done.Reads as run-done-reads
 use Rattle.unit.proofs.refused.Reads as refused-reads
-use Rattle.scanline.proofs.nmi_count.Reads as nmi-count-reads
+use Rattle.lines.proofs.nmi_count.Reads as nmi-count-reads
 
 -- src/lib.rt:353:9
 line-sizes-requires : tie.Need-line-sizes-requires

@@ -5,8 +5,8 @@ use Rattle.scanline.proofs.one_line.Tie as tie
 use Rattle.scanline.proofs.one_line.Reads as reads
 use Rattle.scanline.proofs.one_line.Lts as lts
 use Rattle.scanline.proofs.draw.Reads as draw-reads
-use Rattle.scanline.proofs.drawn.Reads as drawn-reads
-use Rattle.scanline.proofs.draws.Reads as draws-reads
+use Rattle.lines.proofs.drawn.Reads as drawn-reads
+use Rattle.lines.proofs.draws.Reads as draws-reads
 use Rattle.scanline.proofs.undrawn.Reads as undrawn-reads
 
 -- src/lib.rt:274:8

@@ -6,8 +6,8 @@ use Rattle.scanline.proofs.run.Tie as tie
 use Rattle.scanline.proofs.run.Reads as reads
 use Rattle.scanline.proofs.run.Lts as lts
 use Rattle.scanline.proofs.draw.Reads as draw-reads
-use Rattle.scanline.proofs.drawn.Reads as drawn-reads
-use Rattle.scanline.proofs.draws.Reads as draws-reads
+use Rattle.lines.proofs.drawn.Reads as drawn-reads
+use Rattle.lines.proofs.draws.Reads as draws-reads
 use Rattle.scanline.proofs.undrawn.Reads as undrawn-reads
 
 abbrev Inv-loop : tie.InvT-loop

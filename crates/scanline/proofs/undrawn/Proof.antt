@@ -5,7 +5,7 @@ use Rattle.scanline.proofs.undrawn.Tie as tie
 use Rattle.scanline.proofs.undrawn.Reads as reads
 use Rattle.scanline.proofs.undrawn.Lts as lts
 use Rattle.pixels.proofs.clear.Reads as clear-reads
-use Rattle.unit.proofs.blank_line.Reads as blank-line-reads
+use Rattle.lines.proofs.blank_line.Reads as blank-line-reads
 
 -- src/lib.rt:251:9
 clear-requires : tie.Need-clear-requires

@@ -1,11 +1,11 @@
-use Rattle.scanline.proofs.Cases.{count-cases}
+use Rattle.lines.proofs.Cases.{count-cases}
 use borrow.Author.Needs.{needs}
-use Rattle.scanline.proofs.nmi_count.Statement.{statement}
-use Rattle.scanline.proofs.nmi_count.Tie as tie
-use Rattle.scanline.proofs.nmi_count.Reads as reads
-use Rattle.scanline.proofs.nmi_count.Lts as lts
+use Rattle.lines.proofs.nmi_count.Statement.{statement}
+use Rattle.lines.proofs.nmi_count.Tie as tie
+use Rattle.lines.proofs.nmi_count.Reads as reads
+use Rattle.lines.proofs.nmi_count.Lts as lts
 use Rattle.bits.proofs.bit.Reads as bit-reads
-use Rattle.scanline.proofs.until_vblank.Reads as until-vblank-reads
+use Rattle.lines.proofs.until_vblank.Reads as until-vblank-reads
 
 -- src/lib.rt:257:8
 bit-requires : tie.Need-bit-requires

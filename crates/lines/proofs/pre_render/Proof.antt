@@ -1,10 +1,10 @@
-use Rattle.unit.proofs.Cases.{pre-cases}
+use Rattle.lines.proofs.Cases.{pre-cases}
 use borrow.Author.Needs.{needs}
-use Rattle.unit.proofs.pre_render.Statement.{statement}
-use Rattle.unit.proofs.pre_render.Tie as tie
-use Rattle.unit.proofs.pre_render.Reads as reads
-use Rattle.unit.proofs.pre_render.Lts as lts
+use Rattle.lines.proofs.pre_render.Statement.{statement}
+use Rattle.lines.proofs.pre_render.Tie as tie
+use Rattle.lines.proofs.pre_render.Reads as reads
+use Rattle.lines.proofs.pre_render.Lts as lts
 use Rattle.unit.proofs.rendering.Reads as rendering-reads
 
 -- src/lib.rt:313:8
 rendering-requires : tie.Need-rendering-requires

@@ -1,13 +1,13 @@
-use Rattle.scanline.proofs.Cases.{down-small, after-drawn}
+use Rattle.lines.proofs.Cases.{down-small, after-drawn}
 use borrow.Author.Needs.{needs}
-use Rattle.scanline.proofs.drawn.Statement.{statement}
-use Rattle.scanline.proofs.drawn.Tie as tie
-use Rattle.scanline.proofs.drawn.Reads as reads
-use Rattle.scanline.proofs.drawn.Lts as lts
+use Rattle.lines.proofs.drawn.Statement.{statement}
+use Rattle.lines.proofs.drawn.Tie as tie
+use Rattle.lines.proofs.drawn.Reads as reads
+use Rattle.lines.proofs.drawn.Lts as lts
 use Rattle.unit.proofs.copy_side.Reads as copy-side-reads
 use Rattle.unit.proofs.row_down.Reads as row-down-reads
-use Rattle.scanline.proofs.with_hit.Reads as with-hit-reads
-use Rattle.scanline.proofs.with_overflow.Reads as with-overflow-reads
+use Rattle.lines.proofs.with_hit.Reads as with-hit-reads
+use Rattle.lines.proofs.with_overflow.Reads as with-overflow-reads
 
 -- src/lib.rt:229:39
 row-down-requires : tie.Need-row-down-requires

@@ -1,11 +1,11 @@
-use Rattle.unit.proofs.Cases.{blank-cases}
+use Rattle.lines.proofs.Cases.{blank-cases}
 use borrow.Author.Needs.{needs}
-use Rattle.unit.proofs.blank_line.Statement.{statement}
-use Rattle.unit.proofs.blank_line.Tie as tie
-use Rattle.unit.proofs.blank_line.Reads as reads
-use Rattle.unit.proofs.blank_line.Lts as lts
+use Rattle.lines.proofs.blank_line.Statement.{statement}
+use Rattle.lines.proofs.blank_line.Tie as tie
+use Rattle.lines.proofs.blank_line.Reads as reads
+use Rattle.lines.proofs.blank_line.Lts as lts
 use Rattle.bits.proofs.low8.Reads as low8-reads
-use Rattle.unit.proofs.pre_render.Reads as pre-render-reads
+use Rattle.lines.proofs.pre_render.Reads as pre-render-reads
 
 -- src/lib.rt:341:21
 low8-requires : tie.Need-low8-requires

@@ -1,9 +1,9 @@
-use Rattle.scanline.proofs.Cases.{over-set, unset}
+use Rattle.lines.proofs.Cases.{over-set, unset}
 use borrow.Author.Needs.{needs}
-use Rattle.scanline.proofs.with_overflow.Statement.{statement}
-use Rattle.scanline.proofs.with_overflow.Tie as tie
-use Rattle.scanline.proofs.with_overflow.Reads as reads
-use Rattle.scanline.proofs.with_overflow.Lts as lts
+use Rattle.lines.proofs.with_overflow.Statement.{statement}
+use Rattle.lines.proofs.with_overflow.Tie as tie
+use Rattle.lines.proofs.with_overflow.Reads as reads
+use Rattle.lines.proofs.with_overflow.Lts as lts
 use Rattle.bits.proofs.low8.Reads as low8-reads
 
 -- src/lib.rt:165:16

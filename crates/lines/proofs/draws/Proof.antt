@@ -1,9 +1,9 @@
-use Rattle.scanline.proofs.Cases.{draws-cases}
+use Rattle.lines.proofs.Cases.{draws-cases}
 use borrow.Author.Needs.{needs}
-use Rattle.scanline.proofs.draws.Statement.{statement}
-use Rattle.scanline.proofs.draws.Tie as tie
-use Rattle.scanline.proofs.draws.Reads as reads
-use Rattle.scanline.proofs.draws.Lts as lts
+use Rattle.lines.proofs.draws.Statement.{statement}
+use Rattle.lines.proofs.draws.Tie as tie
+use Rattle.lines.proofs.draws.Reads as reads
+use Rattle.lines.proofs.draws.Lts as lts
 use Rattle.unit.proofs.rendering.Reads as rendering-reads
 
 -- src/lib.rt:219:9

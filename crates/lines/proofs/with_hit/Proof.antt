@@ -1,9 +1,9 @@
-use Rattle.scanline.proofs.Cases.{hit-set, unset}
+use Rattle.lines.proofs.Cases.{hit-set, unset}
 use borrow.Author.Needs.{needs}
-use Rattle.scanline.proofs.with_hit.Statement.{statement}
-use Rattle.scanline.proofs.with_hit.Tie as tie
-use Rattle.scanline.proofs.with_hit.Reads as reads
-use Rattle.scanline.proofs.with_hit.Lts as lts
+use Rattle.lines.proofs.with_hit.Statement.{statement}
+use Rattle.lines.proofs.with_hit.Tie as tie
+use Rattle.lines.proofs.with_hit.Reads as reads
+use Rattle.lines.proofs.with_hit.Lts as lts
 use Rattle.bits.proofs.low8.Reads as low8-reads
 
 -- src/lib.rt:155:16

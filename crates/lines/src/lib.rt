@@ -1,0 +1,126 @@
+// What a line does to the unit alone: Ppu -> Ppu, no memory. Inner functions, not public calls.
+// A line that draws nothing: blank_line, pre_render. One that is drawn: draws, drawn, with_hit, with_overflow. Runs: nmi_count, until_vblank.
+ghost use mathlib.Core.Path.{_≡_};
+ghost use mathlib.Core.Bool.{true, _&&_};
+ghost use mathlib.Core.List.{List};
+ghost use Prim.Native.Nat.{ℕ, _+_, _-_, _%_, _<_};
+ghost use lib.Dec.{ltb};
+ghost use Rattle.model.specs.Unit.{lineLength, isRendering};
+ghost use Rattle.model.specs.Sprites.{overflows};
+ghost use Rattle.model.specs.Line.{preRenderLine, blankUnit, anyOf, hitOf, marked, drawnUnit, nmiCount};
+use model::Ppu;
+
+// The unit after line 261.
+fn pre_render(u: Ppu) -> Ppu
+    ensures { λ r. ⌜ r ≡ preRenderLine u ⌝ }
+{
+    if unit::rendering(u) {
+        return Ppu {
+            status: 0,
+            oamaddr: 0,
+            v: u.t,
+            scanline: 0,
+            warm: true,
+            ..u
+        };
+    }
+    Ppu {
+        status: 0,
+        scanline: 0,
+        warm: true,
+        ..u
+    }
+}
+
+// The unit after a line from 240 on.
+pub fn blank_line(u: Ppu) -> Ppu
+    requires { ⌜ u .scanline < 262 ⌝ }
+    ensures { λ r. ⌜ r ≡ blankUnit u ⌝ }
+{
+    if u.scanline == 241 {
+        return Ppu {
+            status: bits::low8(u.status, 7) + 128,
+            scanline: u.scanline + 1,
+            ..u
+        };
+    }
+    if u.scanline == 261 {
+        return pre_render(u);
+    }
+    Ppu {
+        scanline: u.scanline + 1,
+        ..u
+    }
+}
+
+// Status with bit 6 set by a hit.
+fn with_hit(status: u8, hit: bool) -> u8
+    ensures { λ r. ⌜ r ≡ marked 64 hit status ⌝ }
+{
+    if hit {
+        return (status >> 7) * 128 + 64 + bits::low8(status, 6);
+    }
+    status
+}
+
+// Status with bit 5 set by overflow.
+fn with_overflow(status: u8, over: bool) -> u8
+    ensures { λ r. ⌜ r ≡ marked 32 over status ⌝ }
+{
+    if over {
+        return (status >> 6) * 64 + 32 + bits::low8(status, 5);
+    }
+    status
+}
+
+// The next line is 0 to 239, and mask bit 3 or 4 is set.
+pub fn draws(u: Ppu) -> bool
+    ensures { λ r. ⌜ r ≡ (ltb (u .scanline) 240 && isRendering u) ⌝ }
+{
+    if u.scanline < 240 {
+        return unit::rendering(u);
+    }
+    false
+}
+
+// The unit after a line that was drawn, from the flags that it found.
+pub fn drawn(u: Ppu, hit: bool, over: bool) -> Ppu
+    requires { ⌜ (u .v < 32768) × (u .scanline < 240) × (isRendering u ≡ true) ⌝ }
+    ensures { λ x. ⌜ ((l r n o : List ℕ) → hit ≡ anyOf (hitOf u l r n o) lineLength → over ≡ overflows (u .control) o (u .scanline) → x ≡ drawnUnit u l r n o) ⌝ }
+{
+    let down = unit::copy_side(u.t, unit::row_down(u.v));
+    let status = with_overflow(with_hit(u.status, hit), over);
+    Ppu {
+        status: status,
+        oamaddr: 0,
+        v: down,
+        scanline: u.scanline + 1,
+        ..u
+    }
+}
+
+// The lines from next line p until line 241 has run.
+fn until_vblank(p: u16) -> u16
+    requires { ⌜ p < 262 ⌝ }
+    ensures { λ r. ⌜ r ≡ (503 - p) % 262 + 1 ⌝ }
+{
+    if p <= 241 {
+        return 242 - p;
+    }
+    504 - p
+}
+
+// The lines that a run of at most n runs, if control bit 7 stops it after line 241.
+pub fn nmi_count(u: Ppu, n: u16) -> u16
+    requires { ⌜ u .scanline < 262 ⌝ }
+    ensures { λ r. ⌜ r ≡ nmiCount n u ⌝ }
+{
+    if bits::bit(u.control, 7) {
+        let most = until_vblank(u.scanline);
+        if n < most {
+            return n;
+        }
+        return most;
+    }
+    n
+}
