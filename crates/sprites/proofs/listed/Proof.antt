@@ -5,7 +5,7 @@ use Rattle.sprites.proofs.listed.Tie as tie
 use Rattle.sprites.proofs.listed.Reads as reads
 use Rattle.sprites.proofs.listed.Lts as lts
 use Rattle.bits.proofs.wide.Reads as wide-reads
-use Rattle.sprites.proofs.fetch.Reads as fetch-reads
+use Rattle.patterns.proofs.fetch.Reads as fetch-reads
 use Rattle.sprites.proofs.line_before.Reads as line-before-reads
 
 shared-slice-read-wide : tie.Need-shared-slice-read-wide

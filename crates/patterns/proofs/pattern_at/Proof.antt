@@ -1,13 +1,13 @@
 use native.Mathlib.Omega.{arith}
-use Rattle.sprites.proofs.Cases.{pattern-1}
+use Rattle.patterns.proofs.Cases.{pattern-1}
 use borrow.Author.Needs.{needs}
-use Rattle.sprites.proofs.pattern_at.Statement.{statement}
-use Rattle.sprites.proofs.pattern_at.Tie as tie
-use Rattle.sprites.proofs.pattern_at.Reads as reads
-use Rattle.sprites.proofs.pattern_at.Lts as lts
+use Rattle.patterns.proofs.pattern_at.Statement.{statement}
+use Rattle.patterns.proofs.pattern_at.Tie as tie
+use Rattle.patterns.proofs.pattern_at.Reads as reads
+use Rattle.patterns.proofs.pattern_at.Lts as lts
 use Rattle.bits.proofs.low.Reads as low-reads
-use Rattle.sprites.proofs.row_of.Reads as row-of-reads
-use Rattle.sprites.proofs.tile_of.Reads as tile-of-reads
+use Rattle.patterns.proofs.row_of.Reads as row-of-reads
+use Rattle.patterns.proofs.tile_of.Reads as tile-of-reads
 
 row-of-requires : tie.Need-row-of-requires
 row-of-requires c κs = search needs

@@ -1,9 +1,9 @@
-use Rattle.sprites.proofs.Cases.{second-cases}
+use Rattle.patterns.proofs.Cases.{second-cases}
 use borrow.Author.Needs.{needs}
-use Rattle.sprites.proofs.second_table.Statement.{statement}
-use Rattle.sprites.proofs.second_table.Tie as tie
-use Rattle.sprites.proofs.second_table.Reads as reads
-use Rattle.sprites.proofs.second_table.Lts as lts
+use Rattle.patterns.proofs.second_table.Statement.{statement}
+use Rattle.patterns.proofs.second_table.Tie as tie
+use Rattle.patterns.proofs.second_table.Reads as reads
+use Rattle.patterns.proofs.second_table.Lts as lts
 use Rattle.bits.proofs.bit.Reads as bit-reads
 
 bit-requires : tie.Need-bit-requires

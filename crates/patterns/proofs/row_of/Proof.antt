@@ -1,10 +1,10 @@
 use native.Mathlib.Omega.{arith}
-use Rattle.sprites.proofs.Cases.{row-cases}
+use Rattle.patterns.proofs.Cases.{row-cases}
 use borrow.Author.Needs.{needs}
-use Rattle.sprites.proofs.row_of.Statement.{statement}
-use Rattle.sprites.proofs.row_of.Tie as tie
-use Rattle.sprites.proofs.row_of.Reads as reads
-use Rattle.sprites.proofs.row_of.Lts as lts
+use Rattle.patterns.proofs.row_of.Statement.{statement}
+use Rattle.patterns.proofs.row_of.Tie as tie
+use Rattle.patterns.proofs.row_of.Reads as reads
+use Rattle.patterns.proofs.row_of.Lts as lts
 use Rattle.bits.proofs.bit.Reads as bit-reads
 use Rattle.bits.proofs.wide.Reads as wide-reads
 use Rattle.choice.proofs.height.Reads as height-reads

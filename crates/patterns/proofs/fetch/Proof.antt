@@ -1,12 +1,12 @@
-use Rattle.sprites.proofs.Cases.{fetch-1}
+use Rattle.patterns.proofs.Cases.{fetch-1}
 use borrow.Author.Needs.{needs}
-use Rattle.sprites.proofs.fetch.Statement.{statement}
-use Rattle.sprites.proofs.fetch.Tie as tie
-use Rattle.sprites.proofs.fetch.Reads as reads
-use Rattle.sprites.proofs.fetch.Lts as lts
-use Rattle.sprites.proofs.pattern_at.Reads as pattern-at-reads
-use Rattle.sprites.proofs.pattern_byte.Reads as pattern-byte-reads
-use Rattle.sprites.proofs.second_table.Reads as second-table-reads
+use Rattle.patterns.proofs.fetch.Statement.{statement}
+use Rattle.patterns.proofs.fetch.Tie as tie
+use Rattle.patterns.proofs.fetch.Reads as reads
+use Rattle.patterns.proofs.fetch.Lts as lts
+use Rattle.patterns.proofs.pattern_at.Reads as pattern-at-reads
+use Rattle.patterns.proofs.pattern_byte.Reads as pattern-byte-reads
+use Rattle.patterns.proofs.second_table.Reads as second-table-reads
 
 pattern-at-requires : tie.Need-pattern-at-requires
 pattern-at-requires c κs = search needs

@@ -1,9 +1,9 @@
-use Rattle.sprites.proofs.Cases.{byte-cases}
+use Rattle.patterns.proofs.Cases.{byte-cases}
 use borrow.Author.Needs.{needs}
-use Rattle.sprites.proofs.pattern_byte.Statement.{statement}
-use Rattle.sprites.proofs.pattern_byte.Tie as tie
-use Rattle.sprites.proofs.pattern_byte.Reads as reads
-use Rattle.sprites.proofs.pattern_byte.Lts as lts
+use Rattle.patterns.proofs.pattern_byte.Statement.{statement}
+use Rattle.patterns.proofs.pattern_byte.Tie as tie
+use Rattle.patterns.proofs.pattern_byte.Reads as reads
+use Rattle.patterns.proofs.pattern_byte.Lts as lts
 
 shared-slice-read-result : tie.Need-shared-slice-read-result
 shared-slice-read-result c = search needs
