@@ -89,7 +89,7 @@ compile() {
 
 test_minimal() {
     [ "$(pkg-config --cflags --libs ppu | xargs)" = "-I$prefix/include -L$prefix/lib -lppu" ] || fail "pkg-config ppu: $(pkg-config --cflags --libs ppu)"
-    [ "$(pkg-config --modversion ppu)" = "$(sed -n 's/^VERSION = //p' Makefile)" ] || fail "pkg-config --modversion ppu"
+    [ "$(pkg-config --modversion ppu)" = "$(sed -n 's/^#define PPU_VERSION "\(.*\)"$/\1/p' include/ppu.h)" ] || fail "pkg-config --modversion ppu"
     [ "$(wc -l <examples/minimal.c)" -lt 60 ] || fail "examples/minimal.c is no longer short"
     local under=() compiler
     if valgrind --quiet true 2>/dev/null; then under=(valgrind --quiet --error-exitcode=9); else skip "valgrind on minimal, which is not here"; fi

@@ -22,15 +22,29 @@ commands_of() {
 
 has() { command -v "$1" >/dev/null; }
 
-# What cannot be run here: the gate itself, an install by hand, a window without a screen (tests/examples.sh opens one), libraries that are missing.
+# What cannot be run here: the gate itself, an install by hand, what needs a library or a server that is missing.
 left_out() {
     case $1 in
-    .ci/run* | sudo\ * | target/viewer*) return 0 ;;
+    .ci/run* | sudo\ *) return 0 ;;
+    target/viewer*) ! has Xvfb || ! pkg-config --exists sdl2 2>/dev/null ;;
     *sdl2*) ! pkg-config --exists sdl2 2>/dev/null ;;
     tools/ppu-picture*) [ ! -e /usr/include/png.h ] ;;
     *) return 1 ;;
     esac
 }
+
+# A window, for two seconds on an X server without a screen: it must still be open then.
+on_screen() {
+    local server status=0
+    Xvfb -displayfd 1 -screen 0 1100x600x24 >"$out/display" 2>/dev/null &
+    server=$!
+    until [ -s "$out/display" ] || ! kill -0 "$server" 2>/dev/null; do sleep 0.1; done
+    DISPLAY=:$(cat "$out/display") timeout 2 "$@" || status=$?
+    kill "$server" 2>/dev/null
+    [ "$status" -eq 124 ]
+}
+export -f on_screen
+export out
 
 # One command, in the shell that the commands before it have left. make takes this archive and this player as they are.
 run_page() {
@@ -44,7 +58,10 @@ run_page() {
             skipped=$((skipped + 1))
             continue
         fi
-        case $command in make | make\ *) command="$command ARCHIVE=$archive PLAYER=$player" ;; esac
+        case $command in
+        make | make\ *) command="$command ARCHIVE=$archive PLAYER=$player" ;;
+        target/viewer*) command="on_screen $command" ;;
+        esac
         printf '%s || { echo %q >&2; exit 1; }\n' "$command" "tests/readme.sh: $page: failed: $command" >>"$out/commands"
         ran=$((ran + 1))
     done < <(commands_of "$page")
