@@ -59,6 +59,7 @@ int main(void)
     scatter(&m, 7);
     for (int i = 0; i < 256; i += 4)
         m.page[i] = (uint8_t)(i / 2);
+    all_calls(NULL); /* the dynamic linker resolves what the calls use now, and not on the painted stack */
     size_t alone = used_by(nothing), with_calls = used_by(all_calls);
     EXPECT(m.unit[PPU_AT_MASK], 0x1E);
     EXPECT(with_calls > alone, 1);
