@@ -6,13 +6,11 @@ use Rattle.registers.proofs.read_data.Reads as reads
 use Rattle.registers.proofs.read_data.Lts as lts
 use Rattle.registers.proofs.step.Reads as step-reads
 
--- src/lib.rt:301:9
 step-requires : tie.Need-step-requires
 step-requires c κs = search needs
 
--- src/lib.rt:298:1
 returns : tie.Need-returns
-returns c = search (data-1)
+returns c = search data-1
 
 pub read-data-spec : {M : Type 1} → statement M
 read-data-spec = tie.close (tie.spec step-requires returns)
