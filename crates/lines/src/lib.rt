@@ -14,22 +14,16 @@ use model::Ppu;
 fn pre_render(u: Ppu) -> Ppu
     ensures { λ r. ⌜ r ≡ preRenderLine u ⌝ }
 {
+    let mut n = u;
+    n.status = 0;
+    n.scanline = 0;
+    n.warm = true;
     if unit::rendering(u) {
-        return Ppu {
-            status: 0,
-            oamaddr: 0,
-            v: u.t,
-            scanline: 0,
-            warm: true,
-            ..u
-        };
+        n.oamaddr = 0;
+        n.v = u.t;
+        return n;
     }
-    Ppu {
-        status: 0,
-        scanline: 0,
-        warm: true,
-        ..u
-    }
+    n
 }
 
 // The unit after a line from 240 on.
@@ -37,20 +31,16 @@ pub fn blank_line(u: Ppu) -> Ppu
     requires { ⌜ u .scanline < 262 ⌝ }
     ensures { λ r. ⌜ r ≡ blankUnit u ⌝ }
 {
+    let mut n = u;
+    n.scanline = u.scanline + 1;
     if u.scanline == 241 {
-        return Ppu {
-            status: bits::low8(u.status, 7) + 128,
-            scanline: u.scanline + 1,
-            ..u
-        };
+        n.status = bits::low8(u.status, 7) + 128;
+        return n;
     }
     if u.scanline == 261 {
         return pre_render(u);
     }
-    Ppu {
-        scanline: u.scanline + 1,
-        ..u
-    }
+    n
 }
 
 // Status with bit 6 set by a hit.
@@ -90,13 +80,12 @@ pub fn drawn(u: Ppu, hit: bool, over: bool) -> Ppu
 {
     let down = unit::copy_side(u.t, unit::row_down(u.v));
     let status = with_overflow(with_hit(u.status, hit), over);
-    Ppu {
-        status: status,
-        oamaddr: 0,
-        v: down,
-        scanline: u.scanline + 1,
-        ..u
-    }
+    let mut n = u;
+    n.status = status;
+    n.oamaddr = 0;
+    n.v = down;
+    n.scanline = u.scanline + 1;
+    n
 }
 
 // The lines from next line p until line 241 has run.

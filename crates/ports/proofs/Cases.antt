@@ -1,12 +1,14 @@
 -- The ways of each function, for `search`.
 use Prim.Native.Nat.{ℕ, _+_, _*_, _/_, _%_, _<_, _≤_}
 use mathlib.Core.Path.{_≡_, refl, sym, ap, _∙_}
+use mathlib.Core.Bool.{true}
 use mathlib.Core.List.{List, []}
 use native.Mathlib.Omega.{arith}
 use native.Mathlib.Numerals.{add-one}
+use lib.Dec.{leb}
 use lib.ListN.{length, getD, drop}
 use lib.Seq.{drop-cons, drop-length}
-use borrow.Author.Tests.{ne-eqb, lt-ltb, le-ltb}
+use borrow.Author.Tests.{leb-true, ne-eqb, lt-ltb, le-ltb}
 use Rattle.model.specs.declared.Ppu.{Ppu}
 use Rattle.model.specs.declared.Access.{Access}
 use Rattle.model.specs.declared.Place.{Place}
@@ -88,19 +90,23 @@ read-1 u next k b l r n o q x eb en ex =
     in
     ap (λ (y : Access). accessOutcome y l r n o q) ex ∙ (λ i. outcome (doneAnswer (fb i) 0 (fn i)) (state (fn i) (accessMemory l r n o q)))
 
+-- what a write hands back, by the unit after it
+pub wrote-1 : (n next : Ppu) (x : Access) → next ≡ n → x ≡ access (doneAnswer 0 0 next) next → x ≡ access (doneAnswer 0 0 n) n
+wrote-1 n next x e f = f ∙ ap (λ (y : Ppu). access (doneAnswer 0 0 y) y) e
+
 -- an accepted write, from what its steps left
-pub memory-1 : (u : Ppu) (k b : ℕ) (l r n o p l′ r′ n′ o′ p′ : List ℕ)
+memory-1 : (u : Ppu) (k b : ℕ) (l r n o p l′ r′ n′ o′ p′ : List ℕ)
     → video l′ r′ n′ p′ ≡ wroteVideo k u b (video l r n p) → o′ ≡ wroteOamBytes k u b o
     → accessCells l′ r′ n′ o′ p′ ≡ wroteMemory k u b (accessCells l r n o p)
 unfolding wroteMemory
 memory-1 u k b l r n o p l′ r′ n′ o′ p′ hm ho = (λ i. withOam (hm i) (ho i)) ∙ video-oam k u b (video l r n p) o (wroteOamBytes k u b o)
 
-pub write-1 : (u : Ppu) (k b : ℕ) (l₀ r₀ n₀ o₀ p₀ l r n o p : List ℕ) (next : Ppu) (x : Access)
-    → accessCells l r n o p ≡ wroteMemory k u b (accessCells l₀ r₀ n₀ o₀ p₀) → next ≡ wroteUnit k u b → x ≡ access (doneAnswer 0 0 next) next
+pub write-1 : (u : Ppu) (k b : ℕ) (l₀ r₀ n₀ o₀ p₀ l r n o p : List ℕ) (x : Access)
+    → video l r n p ≡ wroteVideo k u b (video l₀ r₀ n₀ p₀) → o ≡ wroteOamBytes k u b o₀ → x ≡ access (doneAnswer 0 0 (wroteUnit k u b)) (wroteUnit k u b)
     → accessOutcome x l r n o p ≡ writeDone k b (state u (accessMemory l₀ r₀ n₀ o₀ p₀))
 unfolding writeDone
-write-1 u k b l₀ r₀ n₀ o₀ p₀ l r n o p next x hm hu hx =
-    let e : x ≡ access (doneAnswer 0 0 (wroteUnit k u b)) (wroteUnit k u b) = hx ∙ ap (λ (y : Ppu). access (doneAnswer 0 0 y) y) hu in
+write-1 u k b l₀ r₀ n₀ o₀ p₀ l r n o p x hv ho e =
+    let hm : accessCells l r n o p ≡ wroteMemory k u b (accessCells l₀ r₀ n₀ o₀ p₀) = memory-1 u k b l₀ r₀ n₀ o₀ p₀ l r n o p hv ho in
     λ i. outcome (e i .answer) (state (e i .unit) (withCells (accessMemory l₀ r₀ n₀ o₀ p₀) (hm i)))
 
 -- sprite DMA: what is left of the page, from here, gives what the whole gives from the start
@@ -118,13 +124,14 @@ module _ (page oam₀ : List ℕ) (n₀ : Ppu) where
   pub copy-start : length oam₀ ≡ 256 → Copying page oam₀ n₀ oam₀ n₀ 0
   copy-start h = record { upto = omega arith; size = h; left = refl }
 
-  pub copy-again : (oam : List ℕ) (n : Ppu) (i : ℕ) (oam′ : List ℕ) (n′ : Ppu) → Copying page oam₀ n₀ oam n i → i < 256 → length page ≡ 256
+  pub copy-again : (oam : List ℕ) (n : Ppu) (i k : ℕ) (oam′ : List ℕ) (n′ : Ppu) → Copying page oam₀ n₀ oam n i → i < k → leb k 256 ≡ true → length page ≡ 256
       → oam′ ≡ wroteOamBytes 4 n (getD page i 0) oam → n′ ≡ wroteUnit 4 n (getD page i 0) → length oam′ ≡ length oam
       → Copying page oam₀ n₀ oam′ n′ (i + 1)
-  copy-again oam n i oam′ n′ inv h len a b k =
+  copy-again oam n i k oam′ n′ inv h most len a b same =
+      let low : i < 256 = omega (arith, leb-true k 256 most) in
       record {
         upto = omega arith;
-        size = k ∙ inv .size;
+        size = same ∙ inv .size;
         left = (λ j. copyOf (drop (i + 1) page) (copied (b j) (a j))) ∙ sym (copy-step page i n oam (omega arith)) ∙ inv .left;
       }
 

@@ -1,6 +1,6 @@
 // Accepted accesses and sprite DMA: what they do to the unit and to lent memory. Inner functions, not public calls:
 // they require the lengths that a call has checked.
-// read, write, dma; below them read_byte, read_unit, write_memory, copy_page.
+// read, write, dma; below them read_byte, read_unit, wrote, copy_page.
 ghost use mathlib.Core.Path.{_≡_};
 ghost use mathlib.Core.List.{[]};
 ghost use lib.ListN.{length};
@@ -15,8 +15,10 @@ ghost use Rattle.model.specs.Unit.{
   paletteLength,
   pageLength,
 };
-ghost use Rattle.model.specs.Ports.{readByte, readUnit, wroteMemory};
+ghost use Rattle.model.specs.Ports.{readByte, readUnit, wroteUnit};
 ghost use Rattle.model.specs.Calls.{
+  access,
+  doneAnswer,
   accessOutcome,
   dmaOutcome,
   readDone,
@@ -91,24 +93,12 @@ pub fn read(
     unit::done(byte, 0, next)
 }
 
-// An accepted write's effect on the five memories.
-fn write_memory(
-    u: Ppu,
-    port: u16,
-    byte: u8,
-    left: &mut [u8],
-    right: &mut [u8],
-    nametables: &mut [u8],
-    oam: &mut [u8],
-    palette: &mut [u8],
-)
-    requires { ⌜ VideoLengths (u .board) (video (now left) (now right) (now nametables) (now palette)) × (length (now oam) ≡ oamLength) ⌝ }
-    ensures { λ r. ⌜ accessCells (now (left .exit)) (now (right .exit)) (now (nametables .exit)) (now (oam .exit)) (now (palette .exit)) ≡
-        wroteMemory port u byte (accessCells (now (left .entry)) (now (right .entry)) (now (nametables .entry)) (now (oam .entry)) (now (palette .entry))) ⌝ }
+// What an accepted write hands back.
+fn wrote(u: Ppu, port: u16, byte: u8) -> Access
+    ensures { λ r. ⌜ r ≡ access (doneAnswer 0 0 (wroteUnit port u byte)) (wroteUnit port u byte) ⌝ }
 {
-    let drawing = unit::drawing(u);
-    memory::write_video(u, port, byte, left, right, nametables, palette);
-    memory::write_oam(u, port, byte, drawing, oam);
+    let next = registers::write_unit(u, port, byte);
+    unit::done(0, 0, next)
 }
 
 // An accepted write of a port.
@@ -126,9 +116,9 @@ pub fn write(
     ensures { λ r. ⌜ accessOutcome r (now (left .exit)) (now (right .exit)) (now (nametables .exit)) (now (oam .exit)) (now (palette .exit)) ≡
         writeDone port byte (state u (accessMemory (now (left .entry)) (now (right .entry)) (now (nametables .entry)) (now (oam .entry)) (now (palette .entry)))) ⌝ }
 {
-    write_memory(u, port, byte, left, right, nametables, oam, palette);
-    let next = registers::write_unit(u, port, byte);
-    unit::done(0, 0, next)
+    memory::write_video(u, port, byte, left, right, nametables, palette);
+    memory::write_oam(u, port, byte, oam);
+    wrote(u, port, byte)
 }
 
 // 256 writes of port 4 with the page's bytes in order.
@@ -140,8 +130,7 @@ fn copy_page(u: Ppu, oam: &mut [u8], page: &[u8]) -> Ppu
     let mut i: usize = 0;
     while i < 256 {
         let byte = page[i];
-        let drawing = unit::drawing(n);
-        memory::write_oam(n, 4, byte, drawing, oam);
+        memory::write_oam(n, 4, byte, oam);
         n = registers::write_unit(n, 4, byte);
         i += 1;
     }

@@ -180,10 +180,9 @@ fn undrawn(u: Ppu, line: &mut [u8]) -> Ppu
 {
     if u.scanline < 240 {
         pixels::clear(line, 256);
-        return Ppu {
-            scanline: u.scanline + 1,
-            ..u
-        };
+        let mut n = u;
+        n.scanline = u.scanline + 1;
+        return n;
     }
     lines::blank_line(u)
 }

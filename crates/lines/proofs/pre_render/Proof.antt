@@ -6,15 +6,12 @@ use Rattle.lines.proofs.pre_render.Reads as reads
 use Rattle.lines.proofs.pre_render.Lts as lts
 use Rattle.unit.proofs.rendering.Reads as rendering-reads
 
--- src/lib.rt:313:8
 rendering-requires : tie.Need-rendering-requires
 rendering-requires c κs = search needs
 
--- src/lib.rt:314:9
 returns : tie.Need-returns
 returns c = search pre-cases
 
--- src/lib.rt:310:1
 returns-2 : tie.Need-returns-2
 returns-2 c = search pre-cases
 

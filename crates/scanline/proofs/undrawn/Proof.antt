@@ -12,8 +12,8 @@ clear-requires : tie.Need-clear-requires
 clear-requires c κs = search needs
 
 -- src/lib.rt:253:23
-add-t7 : tie.Need-add-t7
-add-t7 c = search needs
+add-n : tie.Need-add-n
+add-n c = search needs
 
 -- src/lib.rt:252:9
 same-length : tie.Need-same-length
@@ -33,4 +33,4 @@ returns-2 c = search undrawn-cases
 
 pub undrawn-spec : {M : Type 1} → statement M
 undrawn-spec =
-    tie.close (tie.spec clear-requires add-t7 same-length returns blank-line-requires returns-2)
+    tie.close (tie.spec clear-requires add-n same-length returns blank-line-requires returns-2)
