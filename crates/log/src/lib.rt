@@ -39,11 +39,11 @@ pub fn play_entry(
         playEntry e (state u (playMemory (now (left .entry)) (now (right .entry)) (now (nametables .entry)) (now (oam .entry)) (now (palette .entry)) (now (line .entry)))) ⌝ }
 {
     match e {
-        Entry::Read(address) => ppu::read(u, address, left, right, nametables, oam, palette),
+        Entry::Read(address) => accesses::read(u, address, left, right, nametables, oam, palette),
         Entry::Write(address, byte) => {
-            ppu::write(u, address, byte, left, right, nametables, oam, palette)
+            accesses::write(u, address, byte, left, right, nametables, oam, palette)
         }
-        Entry::Run(n) => ppu::run_all(u, n, left, right, nametables, oam, line),
+        Entry::Run(n) => runs::run_all(u, n, left, right, nametables, oam, line),
         Entry::End => unit::done(0, 0, u),
         Entry::Refused(n) => unit::refused(n, u),
     }

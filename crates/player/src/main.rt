@@ -135,7 +135,7 @@ fn main() {
     let mut oam = [0u8; 256];
     let mut palette = [0u8; 32];
     let mut line = [0u8; 256];
-    let a = ppu::fresh(9);
+    let a = accesses::fresh(9);
     let u = a.unit;
     play_input(
         u,

@@ -1,16 +1,17 @@
 // Runs the checked values through the public calls and prints one line each.
-// Calls: warmed, wrote, tried, got, drew, ran, number. What they show: place, nametable_cell, palette_cell, opaque_column,
-// stepped, lowered, printed. Lines: say, say_hex.
+// Calls: warmed, wrote, tried, got, drew, ran, number. What they show: place, cell, opaque_column, stepped, lowered.
+// Lines: say, say_hex.
 // One function a group of values: cells, palette_cells, scrolling, stepping, rows, status, runs, refusals.
-ghost use Prim.Native.Nat.{_≤_};
+ghost use Prim.Native.Nat.{_<_};
 use model::Access;
 use model::Ppu;
 
 // A unit of this board that is warmed up.
 fn warmed(board: u8) -> Ppu {
     let a = ppu::fresh(board);
-    let u = a.unit;
-    Ppu { warm: true, ..u }
+    let mut u = a.unit;
+    u.warm = true;
+    u
 }
 
 // The unit after a write; all memory zero.
@@ -48,26 +49,26 @@ fn got(u: Ppu, address: u16) -> Access {
     tried(u, address, &oam)
 }
 
-// The unit after a line; all memory zero.
-fn drew(u: Ppu) -> Ppu {
-    let left = [0u8; 4096];
+// The unit after a line whose only opaque tile stands at this cell; all other memory is zero.
+fn drew(u: Ppu, cell: usize, line: &mut [u8]) -> Ppu
+    requires { ⌜ cell < 2048 ⌝ }
+{
+    let mut left = [0u8; 4096];
+    left[16] = 255;
     let right = [0u8; 4096];
-    let nametables = [0u8; 2048];
+    let mut nametables = [0u8; 2048];
+    nametables[cell] = 1;
     let oam = [0u8; 256];
-    let mut line = [0u8; 256];
-    let a = ppu::line(u, &left, &right, &nametables, &oam, &mut line);
+    let a = ppu::line(u, &left, &right, &nametables, &oam, line);
     let n = a.unit;
     n
 }
 
 // The lines that a run of at most 262 runs from this line, with control bit 7 set.
 fn ran(scanline: u16) -> u16 {
-    let f = warmed(0);
-    let u = Ppu {
-        control: 128,
-        scanline,
-        ..f
-    };
+    let mut u = warmed(0);
+    u.control = 128;
+    u.scanline = scanline;
     let left = [0u8; 4096];
     let right = [0u8; 4096];
     let nametables = [0u8; 2048];
@@ -90,10 +91,10 @@ fn place(s: &[u8], byte: u8) -> usize {
     i
 }
 
-// The cell of nametable RAM that a write of port 7 stores in, for a board and v.
-fn nametable_cell(board: u8, v: u16) -> usize {
-    let f = warmed(board);
-    let u = Ppu { v, ..f };
+// The cell that a write of port 7 stores in, for a board and v: of the palette from $3F00, else of nametable RAM.
+fn cell(board: u8, v: u16) -> usize {
+    let mut u = warmed(board);
+    u.v = v;
     let mut left = [0u8; 4096];
     let mut right = [0u8; 4096];
     let mut nametables = [0u8; 2048];
@@ -109,71 +110,22 @@ fn nametable_cell(board: u8, v: u16) -> usize {
         &mut oam,
         &mut palette,
     );
-    place(&nametables, 42)
-}
-
-// The same of the palette.
-fn palette_cell(v: u16) -> usize {
-    let f = warmed(0);
-    let u = Ppu { v, ..f };
-    let mut left = [0u8; 4096];
-    let mut right = [0u8; 4096];
-    let mut nametables = [0u8; 2048];
-    let mut oam = [0u8; 256];
-    let mut palette = [0u8; 32];
-    ppu::write(
-        u,
-        0x2007,
-        42,
-        &mut left,
-        &mut right,
-        &mut nametables,
-        &mut oam,
-        &mut palette,
-    );
+    if v < 0x3F00 {
+        return place(&nametables, 42);
+    }
     place(&palette, 42)
 }
 
-// The first opaque column of a line whose only opaque tile stands at this cell, drawn with the background from v on, wiring 1.
+// The first column of a line, drawn with the background from v on under wiring 1, that shows the tile at this cell.
 fn opaque_column(v: u16, cell: usize) -> usize
-    requires { ⌜ cell ≤ 2047 ⌝ }
+    requires { ⌜ cell < 2048 ⌝ }
 {
-    let f = warmed(1);
-    let u = Ppu { v, mask: 10, ..f };
-    let mut left = [0u8; 4096];
-    left[16] = 255;
-    let right = [0u8; 4096];
-    let mut nametables = [0u8; 2048];
-    nametables[cell] = 1;
-    let oam = [0u8; 256];
+    let mut u = warmed(1);
+    u.v = v;
+    u.mask = 10;
     let mut line = [0u8; 256];
-    ppu::line(u, &left, &right, &nametables, &oam, &mut line);
+    drew(u, cell, &mut line);
     place(&line, 1)
-}
-
-// What the play of an empty log prints, in bytes.
-fn printed() -> usize {
-    let u = warmed(9);
-    let none = [0u8; 1];
-    let mut out = [0u8; 15];
-    let mut left = [0u8; 4096];
-    let mut right = [0u8; 4096];
-    let mut nametables = [0u8; 2048];
-    let mut oam = [0u8; 256];
-    let mut palette = [0u8; 32];
-    let mut line = [0u8; 256];
-    let p = log::play(
-        u,
-        &none[..0],
-        &mut out,
-        &mut left,
-        &mut right,
-        &mut nametables,
-        &mut oam,
-        &mut palette,
-        &mut line,
-    );
-    p.written
 }
 
 fn number(a: Access) -> u64 {
@@ -196,20 +148,20 @@ fn say_hex(what: &[u8], value: u64) {
 }
 
 fn cells() {
-    say(b"$2C05, wiring 0: cell ", nametable_cell(0, 0x2C05) as u64);
-    say(b"$2C05, wiring 1: cell ", nametable_cell(1, 0x2C05) as u64);
-    say(b"$2C05, wiring 3: cell ", nametable_cell(3, 0x2C05) as u64);
-    say(b"$2C05, wiring 2: cell ", nametable_cell(2, 0x2C05) as u64);
-    say(b"$2405, wiring 0: cell ", nametable_cell(0, 0x2405) as u64);
-    say(b"$2405, wiring 1: cell ", nametable_cell(1, 0x2405) as u64);
-    say(b"$3EFF, wiring 0: cell ", nametable_cell(0, 0x3EFF) as u64);
+    say(b"$2C05, wiring 0: cell ", cell(0, 0x2C05) as u64);
+    say(b"$2C05, wiring 1: cell ", cell(1, 0x2C05) as u64);
+    say(b"$2C05, wiring 3: cell ", cell(3, 0x2C05) as u64);
+    say(b"$2C05, wiring 2: cell ", cell(2, 0x2C05) as u64);
+    say(b"$2405, wiring 0: cell ", cell(0, 0x2405) as u64);
+    say(b"$2405, wiring 1: cell ", cell(1, 0x2405) as u64);
+    say(b"$3EFF, wiring 0: cell ", cell(0, 0x3EFF) as u64);
 }
 
 fn palette_cells() {
-    say(b"$3F10: palette ", palette_cell(0x3F10) as u64);
-    say(b"$3F14: palette ", palette_cell(0x3F14) as u64);
-    say(b"$3F11: palette ", palette_cell(0x3F11) as u64);
-    say(b"$3FFF: palette ", palette_cell(0x3FFF) as u64);
+    say(b"$3F10: palette ", cell(0, 0x3F10) as u64);
+    say(b"$3F14: palette ", cell(0, 0x3F14) as u64);
+    say(b"$3F11: palette ", cell(0, 0x3F11) as u64);
+    say(b"$3FFF: palette ", cell(0, 0x3FFF) as u64);
 }
 
 fn scrolling() {
@@ -224,12 +176,9 @@ fn scrolling() {
 
 // v after a read of port 7, with this control.
 fn stepped(control: u8) -> u64 {
-    let f = warmed(0);
-    let u = Ppu {
-        control,
-        v: 32767,
-        ..f
-    };
+    let mut u = warmed(0);
+    u.control = control;
+    u.v = 32767;
     let a = got(u, 0x2007);
     let n = a.unit;
     n.v as u64
@@ -242,9 +191,11 @@ fn stepping() {
 
 // v after line 0 with the background on, t being 0.
 fn lowered(v: u16) -> u64 {
-    let f = warmed(0);
-    let u = Ppu { v, mask: 8, ..f };
-    let n = drew(u);
+    let mut u = warmed(0);
+    u.v = v;
+    u.mask = 8;
+    let mut line = [0u8; 256];
+    let n = drew(u, 0, &mut line);
     n.v as u64
 }
 
@@ -259,12 +210,9 @@ fn rows() {
 }
 
 fn status() {
-    let f = warmed(0);
-    let u = Ppu {
-        status: 0x80,
-        latch: 0x35,
-        ..f
-    };
+    let mut u = warmed(0);
+    u.status = 0x80;
+    u.latch = 0x35;
     let first = got(u, 0x2002);
     let a = first.answer;
     say_hex(b"status $80, latch $35: read 2 gives $", a.byte as u64);
@@ -288,9 +236,9 @@ fn refusals() {
     say(b"$3FFF: ", number(got(u, 0x3FFF)));
     say(b"255 bytes of OAM: ", number(tried(u, 0x2002, &oam[..255])));
     say(b"257 bytes of OAM: ", number(tried(u, 0x2002, &oam)));
-    let late = Ppu { scanline: 262, ..u };
+    let mut late = u;
+    late.scanline = 262;
     say(b"next line 262: ", number(got(late, 0x2002)));
-    say(b"an empty log prints: ", printed() as u64);
 }
 
 fn main() {

@@ -4,9 +4,9 @@ use Rattle.log.proofs.play_entry.Statement.{statement}
 use Rattle.log.proofs.play_entry.Tie as tie
 use Rattle.log.proofs.play_entry.Reads as reads
 use Rattle.log.proofs.play_entry.Lts as lts
-use Rattle.ppu.proofs.run_all.Reads as run-all-reads
-use Rattle.ppu.proofs.read.Reads as read-reads
-use Rattle.ppu.proofs.write.Reads as write-reads
+use Rattle.runs.proofs.run_all.Reads as run-all-reads
+use Rattle.accesses.proofs.read.Reads as read-reads
+use Rattle.accesses.proofs.write.Reads as write-reads
 use Rattle.unit.proofs.done.Reads as done-reads
 use Rattle.unit.proofs.refused.Reads as refused-reads
 

@@ -5,7 +5,7 @@ use Rattle.player.proofs.main.Tie as tie
 use Rattle.player.proofs.main.Reads as reads
 use Rattle.player.proofs.main.Lts as lts
 use Rattle.player.proofs.play_input.Reads as play-input-reads
-use Rattle.ppu.proofs.fresh.Reads as fresh-reads
+use Rattle.accesses.proofs.fresh.Reads as fresh-reads
 
 -- src/main.rt:129:9
 fresh-requires : tie.Need-fresh-requires

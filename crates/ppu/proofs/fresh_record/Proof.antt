@@ -4,22 +4,18 @@ use Rattle.ppu.proofs.fresh_record.Statement.{statement}
 use Rattle.ppu.proofs.fresh_record.Tie as tie
 use Rattle.ppu.proofs.fresh_record.Reads as reads
 use Rattle.ppu.proofs.fresh_record.Lts as lts
-use Rattle.ppu.proofs.fresh.Reads as fresh-reads
+use Rattle.accesses.proofs.fresh.Reads as fresh-reads
 use Rattle.refusals.proofs.unmade.Reads as unmade-reads
 
--- src/lib.rt:289:9
 unmade-requires : tie.Need-unmade-requires
 unmade-requires c κs = search needs
 
--- src/lib.rt:289:9
 returns : tie.Need-returns
 returns c = search fresh-record-cases
 
--- src/lib.rt:291:5
 fresh-requires : tie.Need-fresh-requires
 fresh-requires c κs = search needs
 
--- src/lib.rt:285:1
 returns-2 : tie.Need-returns-2
 returns-2 c = search fresh-record-cases
 

@@ -1,50 +1,48 @@
-use Rattle.ppu.proofs.Cases.{run-cases, line-long, line-formed}
+use Rattle.runs.proofs.Cases.{line-cases, line-long, line-formed}
 use borrow.Author.Needs.{needs}
-use Rattle.ppu.proofs.run_all.Statement.{statement}
-use Rattle.ppu.proofs.run_all.Tie as tie
-use Rattle.ppu.proofs.run_all.Reads as reads
-use Rattle.ppu.proofs.run_all.Lts as lts
+use Rattle.runs.proofs.line.Statement.{statement}
+use Rattle.runs.proofs.line.Tie as tie
+use Rattle.runs.proofs.line.Reads as reads
+use Rattle.runs.proofs.line.Lts as lts
 use Rattle.refusals.proofs.line_sizes.Reads as line-sizes-reads
 use Rattle.refusals.proofs.plain_refusal.Reads as plain-refusal-reads
-use Rattle.ppu.proofs.run_done.Reads as run-done-reads
+use Rattle.unit.proofs.done.Reads as done-reads
 use Rattle.unit.proofs.refused.Reads as refused-reads
+use Rattle.scanline.proofs.one_line.Reads as one-line-reads
 
--- src/lib.rt:383:9
 line-sizes-requires : tie.Need-line-sizes-requires
 line-sizes-requires c κs = search needs
 
--- src/lib.rt:391:9
 plain-refusal-requires : tie.Need-plain-refusal-requires
 plain-refusal-requires c κs = search needs
 
--- src/lib.rt:393:9
 refused-requires : tie.Need-refused-requires
 refused-requires c κs = search needs
 
--- src/lib.rt:393:9
 returns : tie.Need-returns
-returns c = search run-cases
+returns c = search line-cases
 
--- src/lib.rt:395:5
-run-done-requires : tie.Need-run-done-requires
-run-done-requires c κs = (search line-long, search line-formed)
+one-line-requires : tie.Need-one-line-requires
+one-line-requires c κs = (search line-long, search line-formed)
 
--- src/lib.rt:370:1
+done-requires : tie.Need-done-requires
+done-requires c κs = search needs
+
 same-length : tie.Need-same-length
 same-length c = search needs
 
--- src/lib.rt:370:1
 returns-2 : tie.Need-returns-2
-returns-2 c = search run-cases
+returns-2 c = search line-cases
 
-pub run-all-spec : {M : Type 1} → statement M
-run-all-spec =
+pub line-spec : {M : Type 1} → statement M
+line-spec =
     tie.close
     (tie.spec
     line-sizes-requires
     plain-refusal-requires
     refused-requires
     returns
-    run-done-requires
+    one-line-requires
+    done-requires
     same-length
     returns-2)

@@ -1,39 +1,32 @@
-use Rattle.ppu.proofs.Cases.{dma-cases, dma-oam, dma-page}
+use Rattle.accesses.proofs.Cases.{dma-cases, dma-oam, dma-page}
 use borrow.Author.Needs.{needs}
-use Rattle.ppu.proofs.dma.Statement.{statement}
-use Rattle.ppu.proofs.dma.Tie as tie
-use Rattle.ppu.proofs.dma.Reads as reads
-use Rattle.ppu.proofs.dma.Lts as lts
+use Rattle.accesses.proofs.dma.Statement.{statement}
+use Rattle.accesses.proofs.dma.Tie as tie
+use Rattle.accesses.proofs.dma.Reads as reads
+use Rattle.accesses.proofs.dma.Lts as lts
 use Rattle.ports.proofs.dma.Reads as dma-reads
 use Rattle.refusals.proofs.dma_sizes.Reads as dma-sizes-reads
 use Rattle.refusals.proofs.plain_refusal.Reads as plain-refusal-reads
 use Rattle.unit.proofs.refused.Reads as refused-reads
 
--- src/lib.rt:252:9
 dma-sizes-requires : tie.Need-dma-sizes-requires
 dma-sizes-requires c κs = search needs
 
--- src/lib.rt:253:9
 plain-refusal-requires : tie.Need-plain-refusal-requires
 plain-refusal-requires c κs = search needs
 
--- src/lib.rt:255:9
 refused-requires : tie.Need-refused-requires
 refused-requires c κs = search needs
 
--- src/lib.rt:255:9
 returns : tie.Need-returns
 returns c = search dma-cases
 
--- src/lib.rt:257:5
 dma-requires : tie.Need-dma-requires
 dma-requires c κs = (search dma-oam, search dma-page)
 
--- src/lib.rt:249:1
 same-length : tie.Need-same-length
 same-length c = search needs
 
--- src/lib.rt:249:1
 returns-2 : tie.Need-returns-2
 returns-2 c = search dma-cases
 

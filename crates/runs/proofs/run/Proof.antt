@@ -1,44 +1,36 @@
-use Rattle.ppu.proofs.Cases.{run-cases, line-long, line-formed, line-next}
+use Rattle.runs.proofs.Cases.{run-cases, line-long, line-formed, line-next}
 use borrow.Author.Needs.{needs}
-use Rattle.ppu.proofs.run.Statement.{statement}
-use Rattle.ppu.proofs.run.Tie as tie
-use Rattle.ppu.proofs.run.Reads as reads
-use Rattle.ppu.proofs.run.Lts as lts
+use Rattle.runs.proofs.run.Statement.{statement}
+use Rattle.runs.proofs.run.Tie as tie
+use Rattle.runs.proofs.run.Reads as reads
+use Rattle.runs.proofs.run.Lts as lts
 use Rattle.refusals.proofs.line_sizes.Reads as line-sizes-reads
 use Rattle.refusals.proofs.plain_refusal.Reads as plain-refusal-reads
-use Rattle.ppu.proofs.run_done.Reads as run-done-reads
+use Rattle.runs.proofs.run_done.Reads as run-done-reads
 use Rattle.unit.proofs.refused.Reads as refused-reads
 use Rattle.lines.proofs.nmi_count.Reads as nmi-count-reads
 
--- src/lib.rt:353:9
 line-sizes-requires : tie.Need-line-sizes-requires
 line-sizes-requires c κs = search needs
 
--- src/lib.rt:361:9
 plain-refusal-requires : tie.Need-plain-refusal-requires
 plain-refusal-requires c κs = search needs
 
--- src/lib.rt:363:9
 refused-requires : tie.Need-refused-requires
 refused-requires c κs = search needs
 
--- src/lib.rt:363:9
 returns : tie.Need-returns
 returns c = search run-cases
 
--- src/lib.rt:365:9
 nmi-count-requires : tie.Need-nmi-count-requires
 nmi-count-requires c κs = search line-next
 
--- src/lib.rt:366:5
 run-done-requires : tie.Need-run-done-requires
 run-done-requires c κs = (search line-long, search line-formed)
 
--- src/lib.rt:340:1
 same-length : tie.Need-same-length
 same-length c = search needs
 
--- src/lib.rt:340:1
 returns-2 : tie.Need-returns-2
 returns-2 c = search run-cases
 

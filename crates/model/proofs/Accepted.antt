@@ -1,0 +1,70 @@
+-- A call is refused, or done; and what the one or the other says of it. For the contracts of the calls.
+use Prim.Native.Nat.{ℕ, zero, suc}
+use mathlib.Core.Path.{_≡_, refl, sym, ap, _∙_}
+use mathlib.Core.Bool.{Bool, true, false, cond, true≢false, _&&_}
+use mathlib.Core.List.{List}
+use native.Mathlib.Omega.{arith}
+use lib.Dec.{eqb}
+use lib.ListN.{length}
+use Rattle.model.specs.declared.Ppu.{Ppu}
+use Rattle.model.specs.Unit.{State}
+use Rattle.model.specs.Record.{unitOf, recordOk}
+use Rattle.model.specs.Calls.{made, unmade, loadCall, Call, Outcome, outcome, refusal, order, refusalOf, gate, done, onLent}
+use Rattle.model.proofs.Record.{loaded, load-is}
+
+gate-refused : (k : ℕ) (y : Outcome) (s : State) → (k ≡ 0 → ⊥) → outcome (refusal k) s ≡ gate k y s
+gate-refused zero y s h = absurd (h refl)
+gate-refused (suc k) y s h = refl
+
+module _ (c : Call) (s : State) (k : ℕ) (hk : k ≡ refusalOf c s) where
+  pub is-refused : (k ≡ 0 → ⊥) → outcome (refusal k) s ≡ onLent c s
+  unfolding onLent
+  is-refused h = gate-refused k (done c s) s h ∙ ap (λ (i : ℕ). gate i (done c s) s) hk
+
+  pub is-done : k ≡ 0 → done c s ≡ onLent c s
+  unfolding onLent
+  is-done h = ap (λ (i : ℕ). gate i (done c s) s) (sym h ∙ hk)
+
+-- the first refusal is 0: the lengths fit, and the unit is well formed
+pub order-0 : (s w g d : Bool) → order s w g d ≡ 0 → s ≡ true
+unfolding order
+order-0 true w g d e = refl
+order-0 false w g d e = absurd (omega (arith, e))
+
+pub order-formed : (s w g d : Bool) → order s w g d ≡ 0 → w ≡ true
+unfolding order
+order-formed true true g d e = refl
+order-formed true false g d e = absurd (omega (arith, e))
+order-formed false w g d e = absurd (omega (arith, e))
+
+pub and-none : (b : Bool) → b && false ≡ false
+and-none true = refl
+and-none false = refl
+
+pub all5 : (a b c d e : Bool) → a && (b && (c && (d && e))) ≡ true → (a ≡ true) × (b ≡ true) × (c ≡ true) × (d ≡ true) × (e ≡ true)
+all5 true true true true e h = (refl, refl, refl, refl, h)
+all5 false b c d e h = absurd (true≢false (sym h))
+all5 true false c d e h = absurd (true≢false (sym h))
+all5 true true false d e h = absurd (true≢false (sym h))
+all5 true true true false e h = absurd (true≢false (sym h))
+
+-- a record that is not refused, and what is loaded from it
+not-refused : (s : Bool) (n j : ℕ) → n ≡ cond s j 2 → n ≡ 0 → j ≡ 0
+not-refused true n j e h = sym e ∙ h
+not-refused false n j e h = absurd (omega (arith, e, h))
+
+module _ (s : Bool) (l : List ℕ) (n : ℕ) (e : n ≡ cond s (loadCall l .answer .number) 2) (h : n ≡ 0) where
+  pub form-long : length l ≡ 16
+  form-long = loaded l (not-refused s n _ e h) .0
+
+  pub is-made : loadCall l ≡ made (unitOf l)
+  is-made = load-is l form-long (loaded l (not-refused s n _ e h) .1)
+
+unmade-by : (a b : Bool) (u : Ppu) (n : ℕ) → n ≡ cond a (cond b (made u) (unmade 3)) (unmade 2) .answer .number → (n ≡ 0 → ⊥) → cond a (cond b (made u) (unmade 3)) (unmade 2) ≡ unmade n
+unmade-by true true u n e h = absurd (h e)
+unmade-by true false u n e h = ap unmade (sym e)
+unmade-by false b u n e h = ap unmade (sym e)
+
+pub is-unmade : (l : List ℕ) (n : ℕ) → n ≡ loadCall l .answer .number → (n ≡ 0 → ⊥) → loadCall l ≡ unmade n
+unfolding loadCall
+is-unmade l n e h = unmade-by (eqb (length l) 16) (recordOk l) (unitOf l) n e h
