@@ -1,7 +1,7 @@
 // Runs the checked values through the public calls and prints one line each.
 // Calls: warmed, wrote, tried, got, drew, ran, number. What they show: place, cell, opaque_column, stepped, lowered.
 // Lines: say, say_hex.
-// One function a group of values: cells, palette_cells, scrolling, stepping, rows, status, runs, refusals.
+// One function a group of values: cells, palette_cells, scrolling, stepping, rows, status, runs, refusals, records, tiles.
 ghost use Prim.Native.Nat.{_<_};
 use model::Access;
 use model::Ppu;
@@ -241,6 +241,34 @@ fn refusals() {
     say(b"next line 262: ", number(got(late, 0x2002)));
 }
 
+// A unit saved and loaded again, and records that are refused.
+fn records() {
+    let mut u = warmed(9);
+    u.v = 15856;
+    let mut bytes = [0u8; 16];
+    say(b"a unit saved: ", number(ppu::save(u, &mut bytes)));
+    let a = ppu::load(&bytes);
+    let n = a.unit;
+    say(b"loaded again: v ", n.v as u64);
+    let short = [0u8; 15];
+    say(b"15 bytes of a record: ", number(ppu::load(&short)));
+    say(b"board byte 4: ", number(ppu::fresh(4)));
+}
+
+// Where byte 42 stands in a tile, by its table, and a part where a table is too short.
+fn tiles() {
+    let left = [0u8; 4096];
+    let mut right = [0u8; 4096];
+    right[4083] = 42;
+    let part = ppu::tile(&left, &right, true, 255);
+    say(
+        b"tile 255 of the right table: 42 at ",
+        place(part, 42) as u64,
+    );
+    let none = ppu::tile(&left[..4095], &right, true, 255);
+    say(b"with a short table, bytes: ", none.len() as u64);
+}
+
 fn main() {
     cells();
     palette_cells();
@@ -250,4 +278,6 @@ fn main() {
     status();
     runs();
     refusals();
+    records();
+    tiles();
 }
