@@ -43,20 +43,6 @@ look() { python3 "$stored/window.py" "$@"; }
 
 has() { command -v "$1" >/dev/null; }
 
-# What is missing is installed where that can be done; what is still missing afterwards is skipped, with a word.
-install_missing() {
-    local missing=()
-    has pkg-config || missing+=(pkg-config)
-    pkg-config --exists sdl2 2>/dev/null || missing+=(libsdl2-dev)
-    has Xvfb || missing+=(xvfb)
-    has xdotool || missing+=(xdotool)
-    [ ${#missing[@]} -gt 0 ] && [ "$(id -u)" = 0 ] && has apt-get || return 0
-    local get=(timeout 300 apt-get -o DPkg::Lock::Timeout=200 install -y --no-install-recommends "${missing[@]}")
-    "${get[@]}" >"$out/apt-get" 2>&1 || { timeout 300 apt-get update && "${get[@]}"; } >>"$out/apt-get" 2>&1 ||
-        { tail -n 3 "$out/apt-get"; return 0; }
-    say "installed ${missing[*]}"
-}
-
 # The Makefile: what is installed where, and that nothing of it stays.
 make_as_user() { make --no-print-directory -s "$@" ARCHIVE="$archive" PLAYER="$player"; }
 
@@ -333,7 +319,7 @@ for name in gcc clang; do
     ! has "$name" || compilers+=("$name")
 done
 [ ${#compilers[@]} -gt 0 ] || compilers=("${CC:-cc}")
-install_missing
+tests/packages pkg-config libsdl2-dev xvfb xdotool || true
 test_install
 export PKG_CONFIG_PATH=$prefix/lib/pkgconfig ASAN_OPTIONS=detect_leaks=0 # SDL keeps some memory
 if has pkg-config; then

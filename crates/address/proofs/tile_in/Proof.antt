@@ -5,27 +5,21 @@ use Rattle.address.proofs.tile_in.Tie as tie
 use Rattle.address.proofs.tile_in.Reads as reads
 use Rattle.address.proofs.tile_in.Lts as lts
 
--- src/lib.rt:185:14
 mul-at : tie.Need-mul-at
 mul-at c = search needs
 
--- src/lib.rt:186:16
 add-result : tie.Need-add-result
 add-result c = search needs
 
--- src/lib.rt:186:5
 sub-result : tie.Need-sub-result
 sub-result c = search needs
 
--- src/lib.rt:186:5
 part-result-start : tie.Need-part-result-start
 part-result-start c = search needs
 
--- src/lib.rt:186:5
 part-result-end : tie.Need-part-result-end
 part-result-end c = search needs
 
--- src/lib.rt:181:1
 returns : tie.Need-returns
 returns c = search tile-part
 

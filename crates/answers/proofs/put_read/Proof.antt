@@ -8,43 +8,33 @@ use Rattle.answers.proofs.put_read.Reads as reads
 use Rattle.answers.proofs.put_read.Lts as lts
 use Rattle.answers.proofs.hex_digit.Reads as hex-digit-reads
 
--- src/lib.rt:126:15
 hex-digit-requires : tie.Need-hex-digit-requires
 hex-digit-requires c κs = search needs
 
--- src/lib.rt:126:5
 slice-write-out : tie.Need-slice-write-out
 slice-write-out c = search needs
 
--- src/lib.rt:127:19
 hex-digit-requires-2 : tie.Need-hex-digit-requires-2
 hex-digit-requires-2 c κs = search needs
 
--- src/lib.rt:127:9
 add-out : tie.Need-add-out
 add-out c = search needs
 
--- src/lib.rt:127:5
 slice-write-out-2 : tie.Need-slice-write-out-2
 slice-write-out-2 c = simp length-set (omega arith)
 
--- src/lib.rt:128:9
 add-out-2 : tie.Need-add-out-2
 add-out-2 c = search needs
 
--- src/lib.rt:128:5
 slice-write-out-3 : tie.Need-slice-write-out-3
 slice-write-out-3 c = simp length-set (omega arith)
 
--- src/lib.rt:129:5
 add-result : tie.Need-add-result
 add-result c = search needs
 
--- src/lib.rt:122:1
 same-length : tie.Need-same-length
 same-length c = search needs
 
--- src/lib.rt:122:1
 returns : tie.Need-returns
 returns c = search read-cases
 

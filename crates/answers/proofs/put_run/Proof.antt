@@ -7,47 +7,36 @@ use Rattle.answers.proofs.put_run.Lts as lts
 use Rattle.answers.proofs.put.Reads as put-reads
 use Rattle.answers.proofs.put_decimal.Reads as put-decimal-reads
 
--- src/lib.rt:165:17
 slice-aggregate-put : tie.Need-slice-aggregate-put
 slice-aggregate-put c = search needs
 
--- src/lib.rt:165:9
 put-requires : tie.Need-put-requires
 put-requires c κs = search needs
 
--- src/lib.rt:166:9
 put-decimal-requires : tie.Need-put-decimal-requires
 put-decimal-requires c κs = search needs
 
--- src/lib.rt:168:20
 slice-aggregate-put-2 : tie.Need-slice-aggregate-put-2
 slice-aggregate-put-2 c = search needs
 
--- src/lib.rt:168:9
 put-requires-2 : tie.Need-put-requires-2
 put-requires-2 c κs = search needs
 
--- src/lib.rt:168:9
 same-length : tie.Need-same-length
 same-length c = search needs
 
--- src/lib.rt:168:9
 returns : tie.Need-returns
 returns c = search run-cases
 
--- src/lib.rt:170:9
 slice-aggregate-put-3 : tie.Need-slice-aggregate-put-3
 slice-aggregate-put-3 c = search needs
 
--- src/lib.rt:170:5
 put-requires-3 : tie.Need-put-requires-3
 put-requires-3 c κs = search needs
 
--- src/lib.rt:161:1
 same-length-2 : tie.Need-same-length-2
 same-length-2 c = search needs
 
--- src/lib.rt:161:1
 returns-2 : tie.Need-returns-2
 returns-2 c = search run-cases
 

@@ -8,71 +8,54 @@ use Rattle.answers.proofs.put_read.Reads as put-read-reads
 use Rattle.answers.proofs.put_refused.Reads as put-refused-reads
 use Rattle.answers.proofs.put_run.Reads as put-run-reads
 
--- src/lib.rt:190:9
 put-refused-requires : tie.Need-put-refused-requires
 put-refused-requires c κs = search needs
 
--- src/lib.rt:190:9
 same-length : tie.Need-same-length
 same-length c = search needs
 
--- src/lib.rt:190:9
 returns : tie.Need-returns
 returns c = search text-cases
 
--- src/lib.rt:193:44
 enum-told : tie.Need-enum-told
 enum-told c = search needs
 
--- src/lib.rt:193:27
 put-read-requires : tie.Need-put-read-requires
 put-read-requires c κs = search needs
 
--- src/lib.rt:195:17
 enum-told-2 : tie.Need-enum-told-2
 enum-told-2 c = search needs
 
--- src/lib.rt:196:13
 put-run-requires : tie.Need-put-run-requires
 put-run-requires c κs = (search printed, search needs)
 
--- src/lib.rt:198:31
 enum-told-3 : tie.Need-enum-told-3
 enum-told-3 c = search needs
 
--- src/lib.rt:199:23
 enum-told-4 : tie.Need-enum-told-4
 enum-told-4 c = search needs
 
--- src/lib.rt:200:30
 enum-told-5 : tie.Need-enum-told-5
 enum-told-5 c = search needs
 
--- src/lib.rt:184:1
 same-length-2 : tie.Need-same-length-2
 same-length-2 c = search needs
 
--- src/lib.rt:184:1
 returns-2 : tie.Need-returns-2
 returns-2 c = search text-cases
 
--- src/lib.rt:184:1
 same-length-3 : tie.Need-same-length-3
 same-length-3 c = search needs
 
--- src/lib.rt:184:1
 returns-3 : tie.Need-returns-3
 returns-3 c = search text-cases
 
--- src/lib.rt:184:1
 returns-4 : tie.Need-returns-4
 returns-4 c = search text-cases
 
--- src/lib.rt:184:1
 returns-5 : tie.Need-returns-5
 returns-5 c = search text-cases
 
--- src/lib.rt:184:1
 returns-6 : tie.Need-returns-6
 returns-6 c = search text-cases
 

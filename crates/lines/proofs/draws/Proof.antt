@@ -6,15 +6,12 @@ use Rattle.lines.proofs.draws.Reads as reads
 use Rattle.lines.proofs.draws.Lts as lts
 use Rattle.unit.proofs.rendering.Reads as rendering-reads
 
--- src/lib.rt:219:9
 rendering-requires : tie.Need-rendering-requires
 rendering-requires c κs = search needs
 
--- src/lib.rt:219:9
 returns : tie.Need-returns
 returns c = search draws-cases
 
--- src/lib.rt:215:1
 returns-2 : tie.Need-returns-2
 returns-2 c = search draws-cases
 

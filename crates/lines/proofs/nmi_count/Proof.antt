@@ -7,23 +7,18 @@ use Rattle.lines.proofs.nmi_count.Lts as lts
 use Rattle.bits.proofs.bit.Reads as bit-reads
 use Rattle.lines.proofs.until_vblank.Reads as until-vblank-reads
 
--- src/lib.rt:257:8
 bit-requires : tie.Need-bit-requires
 bit-requires c κs = search needs
 
--- src/lib.rt:258:13
 until-vblank-requires : tie.Need-until-vblank-requires
 until-vblank-requires c κs = search needs
 
--- src/lib.rt:260:13
 returns : tie.Need-returns
 returns c = search count-cases
 
--- src/lib.rt:262:9
 returns-2 : tie.Need-returns-2
 returns-2 c = search count-cases
 
--- src/lib.rt:253:1
 returns-3 : tie.Need-returns-3
 returns-3 c = search count-cases
 

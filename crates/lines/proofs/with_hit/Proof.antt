@@ -6,27 +6,21 @@ use Rattle.lines.proofs.with_hit.Reads as reads
 use Rattle.lines.proofs.with_hit.Lts as lts
 use Rattle.bits.proofs.low8.Reads as low8-reads
 
--- src/lib.rt:155:16
 mul-result : tie.Need-mul-result
 mul-result c = search needs
 
--- src/lib.rt:155:16
 add-result : tie.Need-add-result
 add-result c = search needs
 
--- src/lib.rt:155:43
 low8-requires : tie.Need-low8-requires
 low8-requires c κs = search needs
 
--- src/lib.rt:155:16
 add-result-2 : tie.Need-add-result-2
 add-result-2 c = search needs
 
--- src/lib.rt:155:9
 returns : tie.Need-returns
 returns c = search (hit-set, unset)
 
--- src/lib.rt:151:1
 returns-2 : tie.Need-returns-2
 returns-2 c = search (hit-set, unset)
 

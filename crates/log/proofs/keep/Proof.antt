@@ -14,43 +14,33 @@ Inv-loop block₀ from to n i₀ block i = Keeping block₀ block from n i × (f
 abbrev μ-loop : tie.MeasureT-loop
 μ-loop block₀ from to n i₀ block i = n - i
 
--- src/lib.rt:322:13
 sub-n : tie.Need-sub-n Inv-loop μ-loop
 sub-n c = search needs
 
--- src/lib.rt:324:5
 loop-holds : tie.Need-loop-holds Inv-loop μ-loop
 loop-holds c = (search keep-cases, search needs, search needs)
 
--- src/lib.rt:325:26
 add-block : tie.Need-add-block Inv-loop μ-loop
 add-block c = search needs
 
--- src/lib.rt:325:20
 slice-read-block : tie.Need-slice-read-block Inv-loop μ-loop
 slice-read-block c = search needs
 
--- src/lib.rt:325:9
 slice-write-block : tie.Need-slice-write-block Inv-loop μ-loop
 slice-write-block c = search needs
 
--- src/lib.rt:326:9
 add-i : tie.Need-add-i Inv-loop μ-loop
 add-i c = search needs
 
--- src/lib.rt:324:5
 loop-less : tie.Need-loop-less Inv-loop μ-loop
 loop-less c = search needs
 
--- src/lib.rt:324:5
 loop-again : tie.Need-loop-again Inv-loop μ-loop
 loop-again c = (search keep-cases, search needs, search needs)
 
--- src/lib.rt:318:1
 same-length : tie.Need-same-length Inv-loop μ-loop
 same-length c = search needs
 
--- src/lib.rt:318:1
 returns : tie.Need-returns Inv-loop μ-loop
 returns c = (search keep-cases, search needs)
 

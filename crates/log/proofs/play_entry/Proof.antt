@@ -10,123 +10,93 @@ use Rattle.accesses.proofs.write.Reads as write-reads
 use Rattle.unit.proofs.done.Reads as done-reads
 use Rattle.unit.proofs.refused.Reads as refused-reads
 
--- src/lib.rt:228:21
 enum-known-e : tie.Need-enum-known-e
 enum-known-e c = search needs
 
--- src/lib.rt:228:33
 read-requires : tie.Need-read-requires
 read-requires c κs = search needs
 
--- src/lib.rt:229:22
 enum-known-e-2 : tie.Need-enum-known-e-2
 enum-known-e-2 c = search needs
 
--- src/lib.rt:230:13
 write-requires : tie.Need-write-requires
 write-requires c κs = search needs
 
--- src/lib.rt:232:20
 enum-known-e-3 : tie.Need-enum-known-e-3
 enum-known-e-3 c = search needs
 
--- src/lib.rt:232:26
 run-all-requires : tie.Need-run-all-requires
 run-all-requires c κs = search needs
 
--- src/lib.rt:233:23
 enum-told : tie.Need-enum-told
 enum-told c = search needs
 
--- src/lib.rt:233:23
 done-requires : tie.Need-done-requires
 done-requires c κs = search needs
 
--- src/lib.rt:234:24
 enum-known-e-4 : tie.Need-enum-known-e-4
 enum-known-e-4 c = search needs
 
--- src/lib.rt:234:30
 refused-requires : tie.Need-refused-requires
 refused-requires c κs = search needs
 
--- src/lib.rt:214:1
 same-length : tie.Need-same-length
 same-length c = search needs
 
--- src/lib.rt:214:1
 same-length-2 : tie.Need-same-length-2
 same-length-2 c = search needs
 
--- src/lib.rt:214:1
 same-length-3 : tie.Need-same-length-3
 same-length-3 c = search needs
 
--- src/lib.rt:214:1
 same-length-4 : tie.Need-same-length-4
 same-length-4 c = search needs
 
--- src/lib.rt:214:1
 same-length-5 : tie.Need-same-length-5
 same-length-5 c = search needs
 
--- src/lib.rt:214:1
 returns : tie.Need-returns
 returns c = search plays-cases
 
--- src/lib.rt:214:1
 same-length-6 : tie.Need-same-length-6
 same-length-6 c = search needs
 
--- src/lib.rt:214:1
 same-length-7 : tie.Need-same-length-7
 same-length-7 c = search needs
 
--- src/lib.rt:214:1
 same-length-8 : tie.Need-same-length-8
 same-length-8 c = search needs
 
--- src/lib.rt:214:1
 same-length-9 : tie.Need-same-length-9
 same-length-9 c = search needs
 
--- src/lib.rt:214:1
 same-length-10 : tie.Need-same-length-10
 same-length-10 c = search needs
 
--- src/lib.rt:214:1
 returns-2 : tie.Need-returns-2
 returns-2 c = search plays-cases
 
--- src/lib.rt:214:1
 same-length-11 : tie.Need-same-length-11
 same-length-11 c = search needs
 
--- src/lib.rt:214:1
 same-length-12 : tie.Need-same-length-12
 same-length-12 c = search needs
 
--- src/lib.rt:214:1
 same-length-13 : tie.Need-same-length-13
 same-length-13 c = search needs
 
--- src/lib.rt:214:1
 same-length-14 : tie.Need-same-length-14
 same-length-14 c = search needs
 
--- src/lib.rt:214:1
 same-length-15 : tie.Need-same-length-15
 same-length-15 c = search needs
 
--- src/lib.rt:214:1
 returns-3 : tie.Need-returns-3
 returns-3 c = search plays-cases
 
--- src/lib.rt:214:1
 returns-4 : tie.Need-returns-4
 returns-4 c = search plays-cases
 
--- src/lib.rt:214:1
 returns-5 : tie.Need-returns-5
 returns-5 c = search plays-cases
 

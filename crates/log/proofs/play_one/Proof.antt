@@ -7,43 +7,33 @@ use Rattle.log.proofs.play_one.Lts as lts
 use Rattle.log.proofs.play_entry.Reads as play-entry-reads
 use Rattle.answers.proofs.put_text.Reads as put-text-reads
 
--- src/lib.rt:255:9
 play-entry-requires : tie.Need-play-entry-requires
 play-entry-requires c κs = search needs
 
--- src/lib.rt:256:9
 put-text-requires : tie.Need-put-text-requires
 put-text-requires c κs = (printable _ _ _ _ _ _ _ _ _ (c .before .before .before .before .before .before .before .before .before .before .before .before .before .play-entry .ensures), search needs)
 
--- src/lib.rt:239:1
 same-length : tie.Need-same-length
 same-length c = search needs
 
--- src/lib.rt:239:1
 same-length-2 : tie.Need-same-length-2
 same-length-2 c = search needs
 
--- src/lib.rt:239:1
 same-length-3 : tie.Need-same-length-3
 same-length-3 c = search needs
 
--- src/lib.rt:239:1
 same-length-4 : tie.Need-same-length-4
 same-length-4 c = search needs
 
--- src/lib.rt:239:1
 same-length-5 : tie.Need-same-length-5
 same-length-5 c = search needs
 
--- src/lib.rt:239:1
 same-length-6 : tie.Need-same-length-6
 same-length-6 c = search needs
 
--- src/lib.rt:239:1
 same-length-7 : tie.Need-same-length-7
 same-length-7 c = search needs
 
--- src/lib.rt:239:1
 returns : tie.Need-returns
 returns c = search step-done
 

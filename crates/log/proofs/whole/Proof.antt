@@ -5,15 +5,12 @@ use Rattle.log.proofs.whole.Tie as tie
 use Rattle.log.proofs.whole.Reads as reads
 use Rattle.log.proofs.whole.Lts as lts
 
--- src/lib.rt:312:9
 returns : tie.Need-returns
 returns c = (search whole-cases, search needs)
 
--- src/lib.rt:314:5
 mul-result : tie.Need-mul-result
 mul-result c = search needs
 
--- src/lib.rt:308:1
 returns-2 : tie.Need-returns-2
 returns-2 c = (search whole-cases, search needs)
 

@@ -8,27 +8,21 @@ use Rattle.address.proofs.cell.Reads as cell-reads
 use Rattle.memory.proofs.fetch.Reads as fetch-reads
 use Rattle.address.proofs.lead.Reads as lead-reads
 
--- src/lib.rt:143:13
 lead-requires : tie.Need-lead-requires
 lead-requires c κs = search needs
 
--- src/lib.rt:144:9
 fetch-requires : tie.Need-fetch-requires
 fetch-requires c κs = search buffer-cases
 
--- src/lib.rt:144:9
 returns : tie.Need-returns
 returns c = search buffer-cases
 
--- src/lib.rt:147:9
 cell-requires : tie.Need-cell-requires
 cell-requires c κs = search needs
 
--- src/lib.rt:148:5
 shared-slice-read-result : tie.Need-shared-slice-read-result
 shared-slice-read-result c = search needs
 
--- src/lib.rt:130:1
 returns-2 : tie.Need-returns-2
 returns-2 c = search buffer-cases
 

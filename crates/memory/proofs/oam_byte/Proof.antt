@@ -6,23 +6,18 @@ use Rattle.memory.proofs.oam_byte.Reads as reads
 use Rattle.memory.proofs.oam_byte.Lts as lts
 use Rattle.memory.proofs.attribute_bits.Reads as attribute-bits-reads
 
--- src/lib.rt:175:31
 shared-slice-read-attribute-bits : tie.Need-shared-slice-read-attribute-bits
 shared-slice-read-attribute-bits c = search needs
 
--- src/lib.rt:175:9
 attribute-bits-requires : tie.Need-attribute-bits-requires
 attribute-bits-requires c κs = search needs
 
--- src/lib.rt:175:9
 returns : tie.Need-returns
 returns c = search oam-byte-cases
 
--- src/lib.rt:177:5
 shared-slice-read-result : tie.Need-shared-slice-read-result
 shared-slice-read-result c = search needs
 
--- src/lib.rt:169:1
 returns-2 : tie.Need-returns-2
 returns-2 c = search oam-byte-cases
 

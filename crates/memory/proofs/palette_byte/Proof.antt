@@ -5,19 +5,15 @@ use Rattle.memory.proofs.palette_byte.Reads as reads
 use Rattle.memory.proofs.palette_byte.Lts as lts
 use Rattle.address.proofs.palette_cell.Reads as palette-cell-reads
 
--- src/lib.rt:157:27
 cast-palette-cell : tie.Need-cast-palette-cell
 cast-palette-cell c = search needs
 
--- src/lib.rt:157:9
 palette-cell-requires : tie.Need-palette-cell-requires
 palette-cell-requires c κs = search needs
 
--- src/lib.rt:158:5
 shared-slice-read-result : tie.Need-shared-slice-read-result
 shared-slice-read-result c = search needs
 
--- src/lib.rt:152:1
 returns : tie.Need-returns
 returns c = cc
 

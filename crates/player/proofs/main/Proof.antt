@@ -7,47 +7,36 @@ use Rattle.player.proofs.main.Lts as lts
 use Rattle.player.proofs.play_input.Reads as play-input-reads
 use Rattle.accesses.proofs.fresh.Reads as fresh-reads
 
--- src/main.rt:129:9
 fresh-requires : tie.Need-fresh-requires
 fresh-requires c κs = search needs
 
--- src/main.rt:133:9
 slice-aggregate-play-input : tie.Need-slice-aggregate-play-input
 slice-aggregate-play-input c = search needs
 
--- src/main.rt:134:9
 slice-aggregate-play-input-2 : tie.Need-slice-aggregate-play-input-2
 slice-aggregate-play-input-2 c = search needs
 
--- src/main.rt:135:9
 slice-aggregate-play-input-3 : tie.Need-slice-aggregate-play-input-3
 slice-aggregate-play-input-3 c = search needs
 
--- src/main.rt:136:9
 slice-aggregate-play-input-4 : tie.Need-slice-aggregate-play-input-4
 slice-aggregate-play-input-4 c = search needs
 
--- src/main.rt:137:9
 slice-aggregate-play-input-5 : tie.Need-slice-aggregate-play-input-5
 slice-aggregate-play-input-5 c = search needs
 
--- src/main.rt:138:9
 slice-aggregate-play-input-6 : tie.Need-slice-aggregate-play-input-6
 slice-aggregate-play-input-6 c = search needs
 
--- src/main.rt:139:9
 slice-aggregate-play-input-7 : tie.Need-slice-aggregate-play-input-7
 slice-aggregate-play-input-7 c = search needs
 
--- src/main.rt:140:9
 slice-aggregate-play-input-8 : tie.Need-slice-aggregate-play-input-8
 slice-aggregate-play-input-8 c = search needs
 
--- src/main.rt:131:5
 play-input-requires : tie.Need-play-input-requires
 play-input-requires c κs = (search begins, search needs, search needs)
 
--- src/main.rt:120:1
 returns : tie.Need-returns
 returns c = search needs
 

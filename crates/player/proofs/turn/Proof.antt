@@ -11,67 +11,51 @@ use Rattle.log.proofs.play_block.Reads as play-block-reads
 use Rattle.player.proofs.goes_on.Reads as goes-on-reads
 use Rattle.player.proofs.read_more.Reads as read-more-reads
 
--- src/main.rt:55:9
 read-more-requires : tie.Need-read-more-requires
 read-more-requires c κs = search needs
 
--- src/main.rt:59:9
 add-play-block : tie.Need-add-play-block
 add-play-block c = search needs
 
--- src/main.rt:56:9
 play-block-requires : tie.Need-play-block-requires
 play-block-requires c κs = search needs
 
--- src/main.rt:71:57
 slice-reshare-prefix-write-all : tie.Need-slice-reshare-prefix-write-all
 slice-reshare-prefix-write-all c = written-fits _ _ _ _ _ _ (c .before .before .before .before .before .before .before .before .before .before .before .before .before .before .before .before .before .play-block .ensures .0)
 
--- src/main.rt:71:57
 slice-aggregate-write-all : tie.Need-slice-aggregate-write-all
 slice-aggregate-write-all c = sym (length-take-le _ _ (written-fits _ _ _ _ _ _ (c .before .before .before .before .before .before .before .before .before .before .before .before .before .before .before .before .before .before .play-block .ensures .0)))
 
--- src/main.rt:71:9
 write-all-requires : tie.Need-write-all-requires
 write-all-requires c κs = search needs
 
--- src/main.rt:76:16
 goes-on-requires : tie.Need-goes-on-requires
 goes-on-requires c κs = search needs
 
--- src/main.rt:40:1
 same-length : tie.Need-same-length
 same-length c = c .before .before .before .before .before .before .before .before .before .before .before .before .before .before .before .before .before .before .before .before .block2 .given ∙ c .before .before .before .before .before .before .before .before .before .before .before .before .before .before .before .before .before .before .before .before .before .before .before .before .before .before .before .before .before .before .before .block .given
 
--- src/main.rt:40:1
 same-length-2 : tie.Need-same-length-2
 same-length-2 c = search needs
 
--- src/main.rt:40:1
 same-length-3 : tie.Need-same-length-3
 same-length-3 c = search needs
 
--- src/main.rt:40:1
 same-length-4 : tie.Need-same-length-4
 same-length-4 c = search needs
 
--- src/main.rt:40:1
 same-length-5 : tie.Need-same-length-5
 same-length-5 c = search needs
 
--- src/main.rt:40:1
 same-length-6 : tie.Need-same-length-6
 same-length-6 c = search needs
 
--- src/main.rt:40:1
 same-length-7 : tie.Need-same-length-7
 same-length-7 c = search needs
 
--- src/main.rt:40:1
 same-length-8 : tie.Need-same-length-8
 same-length-8 c = search needs
 
--- src/main.rt:40:1
 returns : tie.Need-returns
 returns c = kept-short _ _ _ (c .before .before .before .before .before .before .before .before .before .before .before .before .before .before .before .before .before .before .before .before .before .play-block .ensures .1)
 

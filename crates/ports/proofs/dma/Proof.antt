@@ -7,19 +7,15 @@ use Rattle.ports.proofs.dma.Lts as lts
 use Rattle.ports.proofs.copy_page.Reads as copy-page-reads
 use Rattle.unit.proofs.done.Reads as done-reads
 
--- src/lib.rt:156:9
 copy-page-requires : tie.Need-copy-page-requires
 copy-page-requires c κs = search needs
 
--- src/lib.rt:157:5
 done-requires : tie.Need-done-requires
 done-requires c κs = search needs
 
--- src/lib.rt:152:1
 same-length : tie.Need-same-length
 same-length c = search needs
 
--- src/lib.rt:152:1
 returns : tie.Need-returns
 returns c = search dma-1
 

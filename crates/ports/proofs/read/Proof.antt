@@ -8,19 +8,15 @@ use Rattle.ports.proofs.read_byte.Reads as read-byte-reads
 use Rattle.ports.proofs.read_unit.Reads as read-unit-reads
 use Rattle.unit.proofs.done.Reads as done-reads
 
--- src/lib.rt:89:9
 read-byte-requires : tie.Need-read-byte-requires
 read-byte-requires c κs = search needs
 
--- src/lib.rt:90:9
 read-unit-requires : tie.Need-read-unit-requires
 read-unit-requires c κs = search needs
 
--- src/lib.rt:91:5
 done-requires : tie.Need-done-requires
 done-requires c κs = search needs
 
--- src/lib.rt:76:1
 returns : tie.Need-returns
 returns c = search read-1
 

@@ -9,39 +9,30 @@ use Rattle.memory.proofs.palette_byte.Reads as palette-byte-reads
 use Rattle.registers.proofs.palette_answer.Reads as palette-answer-reads
 use Rattle.registers.proofs.status_byte.Reads as status-byte-reads
 
--- src/lib.rt:36:9
 status-byte-requires : tie.Need-status-byte-requires
 status-byte-requires c κs = search needs
 
--- src/lib.rt:36:9
 returns : tie.Need-returns
 returns c = search byte-cases
 
--- src/lib.rt:39:9
 oam-byte-requires : tie.Need-oam-byte-requires
 oam-byte-requires c κs = search needs
 
--- src/lib.rt:39:9
 returns-2 : tie.Need-returns-2
 returns-2 c = search byte-cases
 
--- src/lib.rt:43:13
 returns-3 : tie.Need-returns-3
 returns-3 c = search byte-cases
 
--- src/lib.rt:45:13
 palette-byte-requires : tie.Need-palette-byte-requires
 palette-byte-requires c κs = search needs
 
--- src/lib.rt:46:9
 palette-answer-requires : tie.Need-palette-answer-requires
 palette-answer-requires c κs = search needs
 
--- src/lib.rt:46:9
 returns-4 : tie.Need-returns-4
 returns-4 c = search byte-cases
 
--- src/lib.rt:31:1
 returns-5 : tie.Need-returns-5
 returns-5 c = search byte-cases
 

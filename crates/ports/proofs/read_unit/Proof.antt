@@ -9,31 +9,24 @@ use Rattle.registers.proofs.fill_latch.Reads as fill-latch-reads
 use Rattle.registers.proofs.read_data.Reads as read-data-reads
 use Rattle.registers.proofs.read_status.Reads as read-status-reads
 
--- src/lib.rt:65:9
 read-status-requires : tie.Need-read-status-requires
 read-status-requires c κs = search needs
 
--- src/lib.rt:65:9
 returns : tie.Need-returns
 returns c = search unit-cases
 
--- src/lib.rt:69:13
 buffer-byte-requires : tie.Need-buffer-byte-requires
 buffer-byte-requires c κs = search needs
 
--- src/lib.rt:70:9
 read-data-requires : tie.Need-read-data-requires
 read-data-requires c κs = search needs
 
--- src/lib.rt:70:9
 returns-2 : tie.Need-returns-2
 returns-2 c = search unit-cases
 
--- src/lib.rt:72:5
 fill-latch-requires : tie.Need-fill-latch-requires
 fill-latch-requires c κs = search needs
 
--- src/lib.rt:52:1
 returns-3 : tie.Need-returns-3
 returns-3 c = search unit-cases
 

@@ -6,55 +6,42 @@ use Rattle.reader.proofs.next.Reads as reads
 use Rattle.reader.proofs.next.Lts as lts
 use Rattle.reader.proofs.whole_entry.Reads as whole-entry-reads
 
--- src/lib.rt:79:9
 returns : tie.Need-returns
 returns c = search next-cases
 
--- src/lib.rt:84:8
 sub-if2 : tie.Need-sub-if2
 sub-if2 c = search needs
 
--- src/lib.rt:85:9
 returns-2 : tie.Need-returns-2
 returns-2 c = search next-cases
 
--- src/lib.rt:90:29
 shared-slice-read-whole-entry : tie.Need-shared-slice-read-whole-entry
 shared-slice-read-whole-entry c = search needs
 
--- src/lib.rt:90:42
 add-whole-entry : tie.Need-add-whole-entry
 add-whole-entry c = search needs
 
--- src/lib.rt:90:38
 shared-slice-read-whole-entry-2 : tie.Need-shared-slice-read-whole-entry-2
 shared-slice-read-whole-entry-2 c = search needs
 
--- src/lib.rt:90:55
 add-whole-entry-2 : tie.Need-add-whole-entry-2
 add-whole-entry-2 c = search needs
 
--- src/lib.rt:90:51
 shared-slice-read-whole-entry-3 : tie.Need-shared-slice-read-whole-entry-3
 shared-slice-read-whole-entry-3 c = search needs
 
--- src/lib.rt:90:68
 add-whole-entry-3 : tie.Need-add-whole-entry-3
 add-whole-entry-3 c = search needs
 
--- src/lib.rt:90:64
 shared-slice-read-whole-entry-4 : tie.Need-shared-slice-read-whole-entry-4
 shared-slice-read-whole-entry-4 c = search needs
 
--- src/lib.rt:90:9
 whole-entry-requires : tie.Need-whole-entry-requires
 whole-entry-requires c κs = search needs
 
--- src/lib.rt:93:28
 add-t9 : tie.Need-add-t9
 add-t9 c = search needs
 
--- src/lib.rt:73:1
 returns-3 : tie.Need-returns-3
 returns-3 c = search next-cases
 

@@ -6,35 +6,27 @@ use Rattle.reader.proofs.whole_entry.Reads as reads
 use Rattle.reader.proofs.whole_entry.Lts as lts
 use Rattle.reader.proofs.zero_ended.Reads as zero-ended-reads
 
--- src/lib.rt:59:19
 mul-address : tie.Need-mul-address
 mul-address c = search needs
 
--- src/lib.rt:59:19
 add-address : tie.Need-add-address
 add-address c = search needs
 
--- src/lib.rt:61:9
 zero-ended-requires : tie.Need-zero-ended-requires
 zero-ended-requires c κs = search needs
 
--- src/lib.rt:61:9
 returns : tie.Need-returns
 returns c = search entry-cases
 
--- src/lib.rt:64:9
 returns-2 : tie.Need-returns-2
 returns-2 c = search entry-cases
 
--- src/lib.rt:67:9
 zero-ended-requires-2 : tie.Need-zero-ended-requires-2
 zero-ended-requires-2 c κs = search needs
 
--- src/lib.rt:67:9
 returns-3 : tie.Need-returns-3
 returns-3 c = search entry-cases
 
--- src/lib.rt:56:1
 returns-4 : tie.Need-returns-4
 returns-4 c = search entry-cases
 

@@ -4,11 +4,9 @@ use Rattle.reader.proofs.zero_ended.Tie as tie
 use Rattle.reader.proofs.zero_ended.Reads as reads
 use Rattle.reader.proofs.zero_ended.Lts as lts
 
--- src/lib.rt:50:9
 returns : tie.Need-returns
 returns c = search zero-cases
 
--- src/lib.rt:46:1
 returns-2 : tie.Need-returns-2
 returns-2 c = search zero-cases
 

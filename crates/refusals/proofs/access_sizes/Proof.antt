@@ -4,23 +4,18 @@ use Rattle.refusals.proofs.access_sizes.Tie as tie
 use Rattle.refusals.proofs.access_sizes.Reads as reads
 use Rattle.refusals.proofs.access_sizes.Lts as lts
 
--- src/lib.rt:115:9
 returns : tie.Need-returns
 returns c = search sizes-cases
 
--- src/lib.rt:118:9
 returns-2 : tie.Need-returns-2
 returns-2 c = search sizes-cases
 
--- src/lib.rt:121:9
 returns-3 : tie.Need-returns-3
 returns-3 c = search sizes-cases
 
--- src/lib.rt:124:9
 returns-4 : tie.Need-returns-4
 returns-4 c = search sizes-cases
 
--- src/lib.rt:104:1
 returns-5 : tie.Need-returns-5
 returns-5 c = search sizes-cases
 

@@ -4,11 +4,9 @@ use Rattle.refusals.proofs.blocked_read.Tie as tie
 use Rattle.refusals.proofs.blocked_read.Reads as reads
 use Rattle.refusals.proofs.blocked_read.Lts as lts
 
--- src/lib.rt:183:9
 returns : tie.Need-returns
 returns c = search blocked-cases
 
--- src/lib.rt:178:1
 returns-2 : tie.Need-returns-2
 returns-2 c = search blocked-cases
 

@@ -4,11 +4,9 @@ use Rattle.refusals.proofs.dma_sizes.Tie as tie
 use Rattle.refusals.proofs.dma_sizes.Reads as reads
 use Rattle.refusals.proofs.dma_sizes.Lts as lts
 
--- src/lib.rt:134:9
 returns : tie.Need-returns
 returns c = search dma-sizes-cases
 
--- src/lib.rt:130:1
 returns-2 : tie.Need-returns-2
 returns-2 c = search dma-sizes-cases
 

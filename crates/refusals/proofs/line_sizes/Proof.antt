@@ -4,23 +4,18 @@ use Rattle.refusals.proofs.line_sizes.Tie as tie
 use Rattle.refusals.proofs.line_sizes.Reads as reads
 use Rattle.refusals.proofs.line_sizes.Lts as lts
 
--- src/lib.rt:157:9
 returns : tie.Need-returns
 returns c = search line-sizes-cases
 
--- src/lib.rt:160:9
 returns-2 : tie.Need-returns-2
 returns-2 c = search line-sizes-cases
 
--- src/lib.rt:163:9
 returns-3 : tie.Need-returns-3
 returns-3 c = search line-sizes-cases
 
--- src/lib.rt:166:9
 returns-4 : tie.Need-returns-4
 returns-4 c = search line-sizes-cases
 
--- src/lib.rt:146:1
 returns-5 : tie.Need-returns-5
 returns-5 c = search line-sizes-cases
 

@@ -6,19 +6,15 @@ use Rattle.refusals.proofs.plain_refusal.Reads as reads
 use Rattle.refusals.proofs.plain_refusal.Lts as lts
 use Rattle.unit.proofs.well_formed.Reads as well-formed-reads
 
--- src/lib.rt:169:12
 well-formed-requires : tie.Need-well-formed-requires
 well-formed-requires c κs = search needs
 
--- src/lib.rt:170:13
 returns : tie.Need-returns
 returns c = search plain-cases
 
--- src/lib.rt:172:9
 returns-2 : tie.Need-returns-2
 returns-2 c = search plain-cases
 
--- src/lib.rt:165:1
 returns-3 : tie.Need-returns-3
 returns-3 c = search plain-cases
 

@@ -5,27 +5,21 @@ use Rattle.registers.proofs.palette_answer.Tie as tie
 use Rattle.registers.proofs.palette_answer.Reads as reads
 use Rattle.registers.proofs.palette_answer.Lts as lts
 
--- src/lib.rt:271:15
 mul-top : tie.Need-mul-top
 mul-top c = search needs
 
--- src/lib.rt:273:22
 mul-result : tie.Need-mul-result
 mul-result c = search needs
 
--- src/lib.rt:273:16
 add-result : tie.Need-add-result
 add-result c = search needs
 
--- src/lib.rt:273:9
 returns : tie.Need-returns
 returns c = search palette-cases
 
--- src/lib.rt:275:5
 add-result-2 : tie.Need-add-result-2
 add-result-2 c = search needs
 
--- src/lib.rt:267:1
 returns-2 : tie.Need-returns-2
 returns-2 c = search palette-cases
 

@@ -5,15 +5,12 @@ use Rattle.registers.proofs.status_byte.Tie as tie
 use Rattle.registers.proofs.status_byte.Reads as reads
 use Rattle.registers.proofs.status_byte.Lts as lts
 
--- src/lib.rt:263:5
 mul-result : tie.Need-mul-result
 mul-result c = search needs
 
--- src/lib.rt:263:5
 add-result : tie.Need-add-result
 add-result c = search needs
 
--- src/lib.rt:260:1
 returns : tie.Need-returns
 returns c = search status-1
 

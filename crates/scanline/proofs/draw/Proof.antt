@@ -7,19 +7,15 @@ use Rattle.scanline.proofs.draw.Lts as lts
 use Rattle.scanline.proofs.background_shown.Reads as background-shown-reads
 use Rattle.scanline.proofs.sprites_shown.Reads as sprites-shown-reads
 
--- src/lib.rt:194:5
 background-shown-requires : tie.Need-background-shown-requires
 background-shown-requires c κs = search needs
 
--- src/lib.rt:195:5
 sprites-shown-requires : tie.Need-sprites-shown-requires
 sprites-shown-requires c κs = search needs
 
--- src/lib.rt:157:1
 same-length : tie.Need-same-length
 same-length c = search needs
 
--- src/lib.rt:157:1
 returns : tie.Need-returns
 returns c = (search drawn-1, search drawn-2, search needs)
 

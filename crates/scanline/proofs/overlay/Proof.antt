@@ -15,19 +15,15 @@ use Rattle.pixels.proofs.clear.Reads as clear-reads
 use Rattle.sprites.proofs.merge_row.Reads as merge-row-reads
 use Rattle.sprites.proofs.sprite_row.Reads as sprite-row-reads
 
--- src/lib.rt:103:70
 slice-aggregate-sprite-row : tie.Need-slice-aggregate-sprite-row
 slice-aggregate-sprite-row c = search needs
 
--- src/lib.rt:103:5
 sprite-row-requires : tie.Need-sprite-row-requires
 sprite-row-requires c κs = ((search needs, search needs, search needs, search needs, search needs), (λ p. zeros-at 264 p, search needs, search needs))
 
--- src/lib.rt:104:19
 slice-aggregate-clear : tie.Need-slice-aggregate-clear
 slice-aggregate-clear c = search needs
 
--- src/lib.rt:104:5
 clear-requires : tie.Need-clear-requires
 clear-requires c κs = search needs
 
@@ -47,11 +43,9 @@ merge-row-requires c κs =
       ),
     )
 
--- src/lib.rt:86:1
 same-length : tie.Need-same-length
 same-length c = search needs
 
--- src/lib.rt:86:1
 returns : tie.Need-returns
 returns c =
     let a = c .before .before .before .before .before .before .before .before .before .before .before .before .before .before .before .before .args in

@@ -16,51 +16,39 @@ Inv-loop n left right nametables oam line₀ next₀ i₀ line next i = Running 
 abbrev μ-loop : tie.MeasureT-loop
 μ-loop n left right nametables oam line₀ next₀ i₀ line next i = n - i
 
--- src/lib.rt:297:5
 loop-holds : tie.Need-loop-holds Inv-loop μ-loop
 loop-holds c = search run-cases
 
--- src/lib.rt:298:9
 add-i : tie.Need-add-i Inv-loop μ-loop
 add-i c = search needs
 
--- src/lib.rt:299:12
 draws-requires : tie.Need-draws-requires Inv-loop μ-loop
 draws-requires c κs = search needs
 
--- src/lib.rt:301:17
 draw-requires : tie.Need-draw-requires Inv-loop μ-loop
 draw-requires c κs = (search needs, search v-small, search x-small, search drawn-low, search drawn-seen)
 
--- src/lib.rt:302:13
 drawn-requires : tie.Need-drawn-requires Inv-loop μ-loop
 drawn-requires c κs = (search v-small, search drawn-low, search drawn-shown)
 
--- src/lib.rt:297:5
 loop-less : tie.Need-loop-less Inv-loop μ-loop
 loop-less c = search needs
 
--- src/lib.rt:297:5
 loop-again : tie.Need-loop-again Inv-loop μ-loop
 loop-again c = search (run-cases, line-1)
 
--- src/lib.rt:305:9
 undrawn-requires : tie.Need-undrawn-requires Inv-loop μ-loop
 undrawn-requires c κs = (search needs, search needs, search draws-not)
 
--- src/lib.rt:297:5
 loop-less-2 : tie.Need-loop-less-2 Inv-loop μ-loop
 loop-less-2 c = search needs
 
--- src/lib.rt:297:5
 loop-again-2 : tie.Need-loop-again-2 Inv-loop μ-loop
 loop-again-2 c = search (run-cases, line-2)
 
--- src/lib.rt:283:1
 same-length : tie.Need-same-length Inv-loop μ-loop
 same-length c = search needs
 
--- src/lib.rt:283:1
 returns : tie.Need-returns Inv-loop μ-loop
 returns c = search run-cases
 

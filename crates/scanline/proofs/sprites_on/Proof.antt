@@ -9,27 +9,21 @@ use Rattle.scanline.proofs.hidden.Reads as hidden-reads
 use Rattle.scanline.proofs.overlay.Reads as overlay-reads
 use Rattle.scanline.proofs.zero_hits.Reads as zero-hits-reads
 
--- src/lib.rt:125:23
 bit-requires : tie.Need-bit-requires
 bit-requires c κs = search needs
 
--- src/lib.rt:125:9
 hidden-requires : tie.Need-hidden-requires
 hidden-requires c κs = search needs
 
--- src/lib.rt:126:9
 zero-hits-requires : tie.Need-zero-hits-requires
 zero-hits-requires c κs = ((search needs, search needs, search needs, search needs), (search needs, search skip-is, search needs, search needs))
 
--- src/lib.rt:127:5
 overlay-requires : tie.Need-overlay-requires
 overlay-requires c κs = ((search needs, search needs, search needs, search needs, search needs), (search needs, search skip-is, search needs, search needs, search needs, search needs))
 
--- src/lib.rt:109:1
 same-length : tie.Need-same-length
 same-length c = search needs
 
--- src/lib.rt:109:1
 returns : tie.Need-returns
 returns c = search needs
 

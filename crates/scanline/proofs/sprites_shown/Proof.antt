@@ -9,43 +9,33 @@ use Rattle.bits.proofs.bit.Reads as bit-reads
 use Rattle.scanline.proofs.sprites_on.Reads as sprites-on-reads
 use Rattle.choice.proofs.choose.Reads as choose-reads
 
--- src/lib.rt:138:13
 cast-n : tie.Need-cast-n
 cast-n c = search needs
 
--- src/lib.rt:140:48
 slice-aggregate-choose : tie.Need-slice-aggregate-choose
 slice-aggregate-choose c = search needs
 
--- src/lib.rt:140:9
 choose-requires : tie.Need-choose-requires
 choose-requires c κs = search needs
 
--- src/lib.rt:143:8
 bit-requires : tie.Need-bit-requires
 bit-requires c κs = search needs
 
--- src/lib.rt:145:13
 returns : tie.Need-returns
 returns c = (search over-3, search hit-3, search needs)
 
--- src/lib.rt:147:61
 slice-aggregate-sprites-on : tie.Need-slice-aggregate-sprites-on
 slice-aggregate-sprites-on c = search needs
 
--- src/lib.rt:147:13
 sprites-on-requires : tie.Need-sprites-on-requires
 sprites-on-requires c κs = ((search needs, search needs, search needs, search needs, search needs), (search needs, search sprites-on, search needs, search needs))
 
--- src/lib.rt:148:9
 same-length : tie.Need-same-length
 same-length c = search needs
 
--- src/lib.rt:148:9
 returns-2 : tie.Need-returns-2
 returns-2 c = search needs
 
--- src/lib.rt:132:1
 returns-3 : tie.Need-returns-3
 returns-3 c = (search (over-2, sprites-off), search (hit-2, sprites-off), search needs)
 

@@ -7,27 +7,21 @@ use Rattle.scanline.proofs.undrawn.Lts as lts
 use Rattle.pixels.proofs.clear.Reads as clear-reads
 use Rattle.lines.proofs.blank_line.Reads as blank-line-reads
 
--- src/lib.rt:251:9
 clear-requires : tie.Need-clear-requires
 clear-requires c κs = search needs
 
--- src/lib.rt:253:23
 add-n : tie.Need-add-n
 add-n c = search needs
 
--- src/lib.rt:252:9
 same-length : tie.Need-same-length
 same-length c = search needs
 
--- src/lib.rt:252:9
 returns : tie.Need-returns
 returns c = search undrawn-cases
 
--- src/lib.rt:257:5
 blank-line-requires : tie.Need-blank-line-requires
 blank-line-requires c κs = search scanline-small
 
--- src/lib.rt:246:1
 returns-2 : tie.Need-returns-2
 returns-2 c = search undrawn-cases
 

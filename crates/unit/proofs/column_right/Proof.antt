@@ -7,27 +7,21 @@ use Rattle.unit.proofs.column_right.Lts as lts
 use Rattle.bits.proofs.low16.Reads as low16-reads
 use Rattle.unit.proofs.turned_10.Reads as turned-10-reads
 
--- src/lib.rt:145:8
 low16-requires : tie.Need-low16-requires
 low16-requires c κs = search needs
 
--- src/lib.rt:146:26
 sub-turned-10 : tie.Need-sub-turned-10
 sub-turned-10 c = search needs
 
--- src/lib.rt:146:9
 turned-10-requires : tie.Need-turned-10-requires
 turned-10-requires c κs = search needs
 
--- src/lib.rt:146:9
 returns : tie.Need-returns
 returns c = search right-cases
 
--- src/lib.rt:148:5
 add-result : tie.Need-add-result
 add-result c = search needs
 
--- src/lib.rt:141:1
 returns-2 : tie.Need-returns-2
 returns-2 c = search right-cases
 

@@ -6,43 +6,33 @@ use Rattle.unit.proofs.copy_side.Reads as reads
 use Rattle.unit.proofs.copy_side.Lts as lts
 use Rattle.bits.proofs.low16.Reads as low16-reads
 
--- src/lib.rt:156:14
 mul-up : tie.Need-mul-up
 mul-up c = search needs
 
--- src/lib.rt:156:33
 low16-requires : tie.Need-low16-requires
 low16-requires c κs = search needs
 
--- src/lib.rt:156:33
 mul-up-2 : tie.Need-mul-up-2
 mul-up-2 c = search needs
 
--- src/lib.rt:156:14
 add-up : tie.Need-add-up
 add-up c = search needs
 
--- src/lib.rt:157:10
 low16-requires-2 : tie.Need-low16-requires-2
 low16-requires-2 c κs = search needs
 
--- src/lib.rt:157:10
 mul-result : tie.Need-mul-result
 mul-result c = search needs
 
--- src/lib.rt:157:5
 add-result : tie.Need-add-result
 add-result c = search needs
 
--- src/lib.rt:157:43
 low16-requires-3 : tie.Need-low16-requires-3
 low16-requires-3 c κs = search needs
 
--- src/lib.rt:157:5
 add-result-2 : tie.Need-add-result-2
 add-result-2 c = search needs
 
--- src/lib.rt:152:1
 returns : tie.Need-returns
 returns c = search side-1
 

@@ -6,11 +6,9 @@ use Rattle.unit.proofs.done.Reads as reads
 use Rattle.unit.proofs.done.Lts as lts
 use Rattle.unit.proofs.nmi.Reads as nmi-reads
 
--- src/lib.rt:359:9
 nmi-requires : tie.Need-nmi-requires
 nmi-requires c κs = search needs
 
--- src/lib.rt:356:1
 returns : tie.Need-returns
 returns c = search (done-1)
 

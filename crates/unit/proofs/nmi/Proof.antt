@@ -4,11 +4,9 @@ use Rattle.unit.proofs.nmi.Tie as tie
 use Rattle.unit.proofs.nmi.Reads as reads
 use Rattle.unit.proofs.nmi.Lts as lts
 
--- src/lib.rt:77:9
 returns : tie.Need-returns
 returns c = search nmi-cases
 
--- src/lib.rt:73:1
 returns-2 : tie.Need-returns-2
 returns-2 c = search nmi-cases
 

@@ -6,11 +6,9 @@ use Rattle.unit.proofs.rendering.Reads as reads
 use Rattle.unit.proofs.rendering.Lts as lts
 use Rattle.bits.proofs.field.Reads as field-reads
 
--- src/lib.rt:40:5
 field-requires : tie.Need-field-requires
 field-requires c κs = search needs
 
--- src/lib.rt:37:1
 returns : tie.Need-returns
 returns c = search rendering-1
 

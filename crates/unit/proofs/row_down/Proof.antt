@@ -7,51 +7,39 @@ use Rattle.unit.proofs.row_down.Lts as lts
 use Rattle.bits.proofs.low16.Reads as low16-reads
 use Rattle.unit.proofs.turned_11.Reads as turned-11-reads
 
--- src/lib.rt:126:8
 low16-requires : tie.Need-low16-requires
 low16-requires c κs = search needs
 
--- src/lib.rt:127:16
 add-result : tie.Need-add-result
 add-result c = search needs
 
--- src/lib.rt:127:9
 returns : tie.Need-returns
 returns c = search down-cases
 
--- src/lib.rt:129:9
 low16-requires-2 : tie.Need-low16-requires-2
 low16-requires-2 c κs = search needs
 
--- src/lib.rt:130:9
 low16-requires-3 : tie.Need-low16-requires-3
 low16-requires-3 c κs = search needs
 
--- src/lib.rt:132:26
 sub-turned-11 : tie.Need-sub-turned-11
 sub-turned-11 c = search needs
 
--- src/lib.rt:132:9
 turned-11-requires : tie.Need-turned-11-requires
 turned-11-requires c κs = search needs
 
--- src/lib.rt:132:9
 returns-2 : tie.Need-returns-2
 returns-2 c = search down-cases
 
--- src/lib.rt:135:16
 sub-result : tie.Need-sub-result
 sub-result c = search needs
 
--- src/lib.rt:135:9
 returns-3 : tie.Need-returns-3
 returns-3 c = search down-cases
 
--- src/lib.rt:137:5
 add-result-2 : tie.Need-add-result-2
 add-result-2 c = search needs
 
--- src/lib.rt:122:1
 returns-4 : tie.Need-returns-4
 returns-4 c = search down-cases
 
