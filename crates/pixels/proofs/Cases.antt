@@ -10,9 +10,9 @@ use Rattle.model.specs.Unit.{bit}
 use Rattle.model.specs.Line.{merged}
 use Rattle.model.specs.Record.{bitByte}
 use Rattle.model.specs.Background.{colourOf, numberOf}
-use Rattle.pixels.specs.Pack.{pack, byteOf, spreadOf, backOf, pixelsBy}
+use Rattle.words.specs.Pack.{byteOf, spreadOf, pixelsBy}
 use Rattle.pixels.specs.Row.{storeTab, overOne}
-use Rattle.pixels.proofs.Colours.{sprite-pack, tile-bytes}
+use Rattle.words.proofs.Colours.{tile-bytes}
 use Rattle.pixels.proofs.Store.{store-cong}
 
 -- put_tile
@@ -73,12 +73,6 @@ pub both-opaque : (b s : ℕ) → (b ≡ 0 → ⊥) → (s ≡ 0 → ⊥) → 1 
 both-opaque b s h k = rw (lt-ltb 0 b (omega arith), lt-ltb 0 s (omega arith))
 
 pub ruleset both-cases = (both-no-background, both-no-sprite, both-opaque)
-
--- sprite_bytes
-pub sprite-1 : (attribute low high l h c d q r : ℕ) (f : Bool) → f ≡ bit 64 attribute → l ≡ cond f (backOf low) (spreadOf low) → h ≡ cond f (backOf high) (spreadOf high)
-    → c ≡ attribute % 4 → d ≡ attribute / 32 % 2 → q ≡ 4 + c + d * 8 → r ≡ pixelsBy l h q
-    → r ≡ pack (λ (j : ℕ). numberOf (4 + attribute % 4 + attribute / 32 % 2 * 8) (colourOf low high (cond (bit 64 attribute) j (7 - j)))) 8
-sprite-1 attribute low high l h c d q r f t i j k m n e = e ∙ rw (i, j, t, n, k, m) (sprite-pack (bit 64 attribute) low high (4 + attribute % 4 + attribute / 32 % 2 * 8))
 
 -- later, sooner: by the test
 module _ (a b : ℕ) where

@@ -1,6 +1,3 @@
-pub mod Pack
-pub mod Spreads
-pub mod Colours
 pub mod Store
 pub mod Over
 pub mod Hit

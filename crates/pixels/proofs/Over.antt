@@ -15,9 +15,9 @@ use Rattle.model.specs.Unit.{bit}
 use Rattle.model.specs.Background.{colourOf, numberOf}
 use Rattle.model.specs.Sprites.{shade}
 use Rattle.model.proofs.Scroll.{lt-or-ge}
-use Rattle.pixels.specs.Pack.{pack, byteOf}
+use Rattle.words.specs.Pack.{pack, byteOf}
 use Rattle.pixels.specs.Row.{overOne, overAt, overTab, placed}
-use Rattle.pixels.proofs.Colours.{shade-bytes}
+use Rattle.words.proofs.Colours.{shade-bytes}
 
 length-over : (l : List ℕ) (at v : ℕ) → length (overAt l at v) ≡ length l
 unfolding overAt

@@ -13,7 +13,7 @@ use Rattle.model.specs.Unit.{bit}
 use Rattle.model.specs.Background.{colourOf, numberOf}
 use Rattle.model.specs.Sprites.{oamAt, height, covers, fetched, shade}
 use Rattle.model.proofs.Scroll.{lt-or-ge}
-use Rattle.pixels.specs.Pack.{pack, byteOf}
+use Rattle.words.specs.Pack.{pack, byteOf}
 use Rattle.pixels.specs.Row.{overTab}
 use Rattle.pixels.proofs.Over.{over-shade}
 use Rattle.choice.proofs.Places.{y-at}

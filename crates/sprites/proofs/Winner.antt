@@ -14,7 +14,7 @@ use Rattle.model.specs.Unit.{bit}
 use Rattle.model.specs.Background.{colourOf, numberOf}
 use Rattle.model.specs.Sprites.{oamAt, covers, placesOf, countOf, fetched, chosen, shade, winner, spriteOn, spriteZeroOn}
 use Rattle.model.proofs.Scroll.{lt-or-ge}
-use Rattle.pixels.specs.Pack.{pack, byteOf}
+use Rattle.words.specs.Pack.{pack, byteOf}
 use Rattle.pixels.specs.Row.{placed, meetsOf}
 use Rattle.pixels.proofs.Over.{over-none, placed-shade}
 use Rattle.pixels.proofs.Hit.{meets-none, meets-cong}

@@ -39,7 +39,7 @@ pub fn put_sprite(s: Sprite, row: &mut [u8])
     ensures { λ _. ⌜ ((p : ℕ) → getD (now (row .exit)) p 0 ≡ cond (eqb (getD (now (row .entry)) p 0) 0) (shade s p) (getD (now (row .entry)) p 0))
         × (length (now (row .exit)) ≡ 264) ⌝ }
 {
-    pixels::put_over(row, bits::wide(s.x), pixels::sprite_bytes(s));
+    pixels::put_over(row, bits::wide(s.x), words::sprite_bytes(s));
 }
 
 // The sprite that stands at i in the choice's list, as line n shows it.
@@ -154,7 +154,7 @@ pub fn zero_meets(
     let above = line_before(n);
     if covering(control, above, 0, oam) {
         let s = patterns::fetch(control, above, 0, left, right, oam);
-        return pixels::meets(line, bits::wide(s.x), pixels::sprite_bytes(s), skip);
+        return pixels::meets(line, bits::wide(s.x), words::sprite_bytes(s), skip);
     }
     false
 }

@@ -1,5 +1,5 @@
 use Prim.Native.Nat.{_-_}
-use Rattle.pixels.specs.Pack.{byteOf}
+use Rattle.words.specs.Pack.{byteOf}
 use Rattle.pixels.proofs.Hit.{Met, met-loop}
 use borrow.Author.Needs.{needs}
 use Rattle.pixels.proofs.meets.Statement.{statement}
@@ -7,7 +7,7 @@ use Rattle.pixels.proofs.meets.Tie as tie
 use Rattle.pixels.proofs.meets.Reads as reads
 use Rattle.pixels.proofs.meets.Lts as lts
 use Rattle.pixels.proofs.both.Reads as both-reads
-use Rattle.pixels.proofs.byte.Reads as byte-reads
+use Rattle.words.proofs.byte.Reads as byte-reads
 use Rattle.pixels.proofs.later.Reads as later-reads
 use Rattle.pixels.proofs.sooner.Reads as sooner-reads
 

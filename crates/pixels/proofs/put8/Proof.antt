@@ -2,7 +2,7 @@ use Prim.Native.Nat.{_≤_, _-_}
 use mathlib.Core.Path.{_≡_, refl}
 use native.Mathlib.Omega.{arith}
 use lib.ListN.{length, length-set}
-use Rattle.pixels.specs.Pack.{byteOf}
+use Rattle.words.specs.Pack.{byteOf}
 use Rattle.pixels.specs.Row.{storeTab}
 use Rattle.pixels.proofs.Store.{store-more}
 use borrow.Author.Needs.{needs}
@@ -10,7 +10,7 @@ use Rattle.pixels.proofs.put8.Statement.{statement}
 use Rattle.pixels.proofs.put8.Tie as tie
 use Rattle.pixels.proofs.put8.Reads as reads
 use Rattle.pixels.proofs.put8.Lts as lts
-use Rattle.pixels.proofs.byte.Reads as byte-reads
+use Rattle.words.proofs.byte.Reads as byte-reads
 
 abbrev Inv-loop : tie.InvT-loop
 Inv-loop row₀ at n j₀ row j = (j ≤ 8) × (length row ≡ length row₀) × (row ≡ storeTab (byteOf n) at j row₀)

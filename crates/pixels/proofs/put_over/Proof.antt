@@ -2,7 +2,7 @@ use Prim.Native.Nat.{_≤_, _-_}
 use mathlib.Core.Path.{_≡_, refl}
 use native.Mathlib.Omega.{arith}
 use lib.ListN.{length, length-set}
-use Rattle.pixels.specs.Pack.{byteOf}
+use Rattle.words.specs.Pack.{byteOf}
 use Rattle.pixels.specs.Row.{overTab}
 use Rattle.pixels.proofs.Over.{over-more}
 use borrow.Author.Needs.{needs}
@@ -10,7 +10,7 @@ use Rattle.pixels.proofs.put_over.Statement.{statement}
 use Rattle.pixels.proofs.put_over.Tie as tie
 use Rattle.pixels.proofs.put_over.Reads as reads
 use Rattle.pixels.proofs.put_over.Lts as lts
-use Rattle.pixels.proofs.byte.Reads as byte-reads
+use Rattle.words.proofs.byte.Reads as byte-reads
 use Rattle.pixels.proofs.over_one.Reads as over-one-reads
 
 abbrev Inv-loop : tie.InvT-loop

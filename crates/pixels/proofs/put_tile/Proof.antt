@@ -5,9 +5,9 @@ use Rattle.pixels.proofs.put_tile.Tie as tie
 use Rattle.pixels.proofs.put_tile.Reads as reads
 use Rattle.pixels.proofs.put_tile.Lts as lts
 use Rattle.bits.proofs.wide64.Reads as wide64-reads
-use Rattle.pixels.proofs.numbers.Reads as numbers-reads
+use Rattle.words.proofs.numbers.Reads as numbers-reads
 use Rattle.pixels.proofs.put8.Reads as put8-reads
-use Rattle.pixels.proofs.spread.Reads as spread-reads
+use Rattle.words.proofs.spread.Reads as spread-reads
 
 spread-requires : tie.Need-spread-requires
 spread-requires c κs = search needs

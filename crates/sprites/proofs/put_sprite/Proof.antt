@@ -6,7 +6,7 @@ use Rattle.sprites.proofs.put_sprite.Reads as reads
 use Rattle.sprites.proofs.put_sprite.Lts as lts
 use Rattle.bits.proofs.wide.Reads as wide-reads
 use Rattle.pixels.proofs.put_over.Reads as put-over-reads
-use Rattle.pixels.proofs.sprite_bytes.Reads as sprite-bytes-reads
+use Rattle.words.proofs.sprite_bytes.Reads as sprite-bytes-reads
 
 wide-requires : tie.Need-wide-requires
 wide-requires c κs = search needs

@@ -6,7 +6,7 @@ use Rattle.sprites.proofs.zero_meets.Reads as reads
 use Rattle.sprites.proofs.zero_meets.Lts as lts
 use Rattle.bits.proofs.wide.Reads as wide-reads
 use Rattle.pixels.proofs.meets.Reads as meets-reads
-use Rattle.pixels.proofs.sprite_bytes.Reads as sprite-bytes-reads
+use Rattle.words.proofs.sprite_bytes.Reads as sprite-bytes-reads
 use Rattle.sprites.proofs.covering.Reads as covering-reads
 use Rattle.patterns.proofs.fetch.Reads as fetch-reads
 use Rattle.sprites.proofs.line_before.Reads as line-before-reads

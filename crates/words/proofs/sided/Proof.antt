@@ -1,11 +1,11 @@
-use Rattle.pixels.proofs.Spreads.{taken-cases}
+use Rattle.words.proofs.Spreads.{taken-cases}
 use borrow.Author.Needs.{needs}
-use Rattle.pixels.proofs.sided.Statement.{statement}
-use Rattle.pixels.proofs.sided.Tie as tie
-use Rattle.pixels.proofs.sided.Reads as reads
-use Rattle.pixels.proofs.sided.Lts as lts
+use Rattle.words.proofs.sided.Statement.{statement}
+use Rattle.words.proofs.sided.Tie as tie
+use Rattle.words.proofs.sided.Reads as reads
+use Rattle.words.proofs.sided.Lts as lts
 use Rattle.bits.proofs.wide64.Reads as wide64-reads
-use Rattle.pixels.proofs.order.Reads as order-reads
+use Rattle.words.proofs.order.Reads as order-reads
 
 wide64-requires : tie.Need-wide64-requires
 wide64-requires c κs = search needs

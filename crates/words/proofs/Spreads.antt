@@ -9,8 +9,8 @@ use lib.Dec.{T, eqb, eqb→eq}
 use lib.Bits.{bitAnd, and-le-r}
 use mir.Val.{Fits}
 use mir.Syntax.{w64}
-use Rattle.pixels.specs.Pack.{pack, spreadOf, backOf}
-use Rattle.pixels.proofs.Pack.{pack-le}
+use Rattle.words.specs.Pack.{pack, spreadOf, backOf}
+use Rattle.words.proofs.Pack.{pack-le}
 
 -- 1 at each of the bits f 0 to f (n - 1): times b it is the sum of b moved up by each of them
 unfoldable pub movesBy : (ℕ → ℕ) → ℕ → ℕ

@@ -1,9 +1,9 @@
-use Rattle.pixels.specs.Pack.{byteOf}
+use Rattle.words.specs.Pack.{byteOf}
 use borrow.Author.Needs.{needs}
-use Rattle.pixels.proofs.byte.Statement.{statement}
-use Rattle.pixels.proofs.byte.Tie as tie
-use Rattle.pixels.proofs.byte.Reads as reads
-use Rattle.pixels.proofs.byte.Lts as lts
+use Rattle.words.proofs.byte.Statement.{statement}
+use Rattle.words.proofs.byte.Tie as tie
+use Rattle.words.proofs.byte.Reads as reads
+use Rattle.words.proofs.byte.Lts as lts
 use Rattle.bits.proofs.low_byte.Reads as low-byte-reads
 
 mul-low-byte : tie.Need-mul-low-byte

@@ -9,8 +9,8 @@ use lib.Bits.{bitOr, or-add-and}
 use mir.Val.{Fits}
 use mir.Syntax.{w64}
 use Rattle.model.specs.Background.{colourOf, numberOf}
-use Rattle.pixels.specs.Pack.{pack, byteOf, spreadOf, backOf, pixelsBy}
-use Rattle.pixels.proofs.Pack.{pack-ext, pack-add, pack-mul, pack-or, byte-at}
+use Rattle.words.specs.Pack.{pack, byteOf, spreadOf, backOf, pixelsBy}
+use Rattle.words.proofs.Pack.{pack-ext, pack-add, pack-mul, pack-or, byte-at}
 
 -- one pixel: 4 is added q times where either bit is 1
 one-pixel : (q a b : ℕ) → a < 2 → b < 2 → a + 2 * b + bitOr a b * (4 * q) ≡ numberOf q (a + 2 * b)

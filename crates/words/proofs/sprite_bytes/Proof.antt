@@ -1,15 +1,15 @@
-use Rattle.pixels.proofs.Cases.{sprite-1}
+use Rattle.words.proofs.Cases.{sprite-1}
 use borrow.Author.Needs.{needs}
-use Rattle.pixels.proofs.sprite_bytes.Statement.{statement}
-use Rattle.pixels.proofs.sprite_bytes.Tie as tie
-use Rattle.pixels.proofs.sprite_bytes.Reads as reads
-use Rattle.pixels.proofs.sprite_bytes.Lts as lts
+use Rattle.words.proofs.sprite_bytes.Statement.{statement}
+use Rattle.words.proofs.sprite_bytes.Tie as tie
+use Rattle.words.proofs.sprite_bytes.Reads as reads
+use Rattle.words.proofs.sprite_bytes.Lts as lts
 use Rattle.bits.proofs.bit.Reads as bit-reads
 use Rattle.bits.proofs.field.Reads as field-reads
 use Rattle.bits.proofs.low8.Reads as low8-reads
 use Rattle.bits.proofs.wide64.Reads as wide64-reads
-use Rattle.pixels.proofs.numbers.Reads as numbers-reads
-use Rattle.pixels.proofs.sided.Reads as sided-reads
+use Rattle.words.proofs.numbers.Reads as numbers-reads
+use Rattle.words.proofs.sided.Reads as sided-reads
 
 bit-requires : tie.Need-bit-requires
 bit-requires c κs = search needs

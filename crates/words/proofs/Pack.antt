@@ -6,7 +6,7 @@ use native.Mathlib.Nat.{add-mul, mul-comm, mul-assoc, zero-mul, mul-le-mul-right
 use lib.Dec.{lit<, lit≤}
 use lib.Bits.{bitOr, or-block}
 use lib.Pow.{pow-add, high, low, field, mod-mod-pow}
-use Rattle.pixels.specs.Pack.{pack, byteOf}
+use Rattle.words.specs.Pack.{pack, byteOf}
 
 pub pack-ext : (f g : ℕ → ℕ) (n : ℕ) → ((k : ℕ) → k < n → f k ≡ g k) → pack f n ≡ pack g n
 unfolding pack

@@ -1,10 +1,10 @@
-use Rattle.pixels.specs.Pack.{pack, spreadOf}
-use Rattle.pixels.proofs.Spreads.{spread-is}
+use Rattle.words.specs.Pack.{pack, spreadOf}
+use Rattle.words.proofs.Spreads.{spread-is}
 use borrow.Author.Needs.{needs}
-use Rattle.pixels.proofs.spread.Statement.{statement}
-use Rattle.pixels.proofs.spread.Tie as tie
-use Rattle.pixels.proofs.spread.Reads as reads
-use Rattle.pixels.proofs.spread.Lts as lts
+use Rattle.words.proofs.spread.Statement.{statement}
+use Rattle.words.proofs.spread.Tie as tie
+use Rattle.words.proofs.spread.Reads as reads
+use Rattle.words.proofs.spread.Lts as lts
 use Rattle.bits.proofs.wide64.Reads as wide64-reads
 
 wide64-requires : tie.Need-wide64-requires

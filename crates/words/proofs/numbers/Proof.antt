@@ -1,11 +1,11 @@
 use mathlib.Core.Path.{refl}
-use Rattle.pixels.specs.Pack.{pixelsBy}
-use Rattle.pixels.proofs.Colours.{product-fits, sum-fits}
+use Rattle.words.specs.Pack.{pixelsBy}
+use Rattle.words.proofs.Colours.{product-fits, sum-fits}
 use borrow.Author.Needs.{needs}
-use Rattle.pixels.proofs.numbers.Statement.{statement}
-use Rattle.pixels.proofs.numbers.Tie as tie
-use Rattle.pixels.proofs.numbers.Reads as reads
-use Rattle.pixels.proofs.numbers.Lts as lts
+use Rattle.words.proofs.numbers.Statement.{statement}
+use Rattle.words.proofs.numbers.Tie as tie
+use Rattle.words.proofs.numbers.Reads as reads
+use Rattle.words.proofs.numbers.Lts as lts
 
 mul-result : tie.Need-mul-result
 mul-result c = search needs

@@ -1,0 +1,4 @@
+pub mod Pack
+pub mod Spreads
+pub mod Colours
+pub mod Cases
