@@ -1,62 +1,41 @@
 -- The ways of each function, for `search`.
 use Prim.Native.Nat.{ℕ, _+_, _*_, _%_, _<_, _≤_}
-use mathlib.Core.Path.{_≡_, ap, _∙_}
-use mathlib.Core.Bool.{Bool, true, false, cond}
+use mathlib.Core.Path.{_≡_, refl, ap, _∙_}
+use mathlib.Core.Bool.{Bool, true, false, cond, _&&_}
 use mathlib.Core.List.{List}
 use native.Mathlib.Omega.{arith}
-use lib.Dec.{eqb}
+use lib.Dec.{eqb, ltb}
 use lib.ListN.{length}
-use borrow.Author.Tests.{eq-eqb, ne-eqb, lt-ltb, le-ltb, lt-leb, le-leb}
+use borrow.Author.Tests.{eq-eqb, ne-eqb, lt-leb, le-leb}
 use Rattle.model.specs.declared.Board.{Board}
 use Rattle.model.specs.declared.Ppu.{Ppu}
 use Rattle.model.specs.declared.Answer.{Answer}
 use Rattle.model.specs.declared.Access.{Access}
-use Rattle.model.specs.Unit.{fresh, zeroUnit, isWellFormed, isDrawing}
+use Rattle.model.specs.Unit.{patternLength, nametableLength, oamLength, fresh, zeroUnit, isWellFormed, isDrawing}
 use Rattle.model.specs.Record.{unitOf, recordOf, bytesOk, recordOk}
-use Rattle.model.specs.Calls.{refusedAccess, unmade, loadCall, packed, savedBytes, accessSizes, dmaSizes, lineSizes, blockedRead, order, accessRefusal, plainRefusal}
+use Rattle.model.specs.Calls.{refusedAccess, made, unmade, loadCall, packed, savedBytes, dmaSizes, addressOk, blockedRead, order, accessRefusal, plainRefusal}
 
 pub unmade-1 : (n : ℕ) (d : Board) (u : Ppu) (r : Access) → d ≡ zeroUnit .board → u ≡ fresh d → r ≡ refusedAccess n u → r ≡ unmade n
 unmade-1 n d u r e f g = g ∙ ap (refusedAccess n) (f ∙ ap fresh e)
 
--- the number of a record's refusal; s: what is lent beside it has the right lengths
-module _ (s : Bool) (l : List ℕ) where
-  pub form-0 : s ≡ false → 2 ≡ cond s (loadCall l .answer .number) 2
-  form-0 z = rw z
+-- lengths
+module _ (d : Board) (l r n o p k : ℕ) where
+  abbrev fit : Bool
+  fit = eqb l patternLength && (eqb r patternLength && (eqb n (nametableLength d) && (eqb o oamLength && eqb p k)))
 
-  pub form-1 : s ≡ true → (length l ≡ 16 → ⊥) → 2 ≡ cond s (loadCall l .answer .number) 2
-  unfolding loadCall
-  form-1 z p = rw (z, ne-eqb (length l) 16 p)
-
-  module _ (k : Bool) (z : s ≡ true) (n : length l ≡ 16) (e : k ≡ bytesOk l) where
-    pub form-2 : (w : Bool) (u : Ppu) → k ≡ true → u ≡ unitOf l → w ≡ isWellFormed u → w ≡ true → 0 ≡ cond s (loadCall l .answer .number) 2
-    unfolding loadCall recordOk
-    form-2 w u p f g q = rw (z, eq-eqb (length l) 16 n, ← e, p, ← f, ← g, q)
-
-    pub form-3 : (w : Bool) (u : Ppu) → k ≡ true → u ≡ unitOf l → w ≡ isWellFormed u → w ≡ false → 3 ≡ cond s (loadCall l .answer .number) 2
-    unfolding loadCall recordOk
-    form-3 w u p f g q = rw (z, eq-eqb (length l) 16 n, ← e, p, ← f, ← g, q)
-
-    pub form-4 : k ≡ false → 3 ≡ cond s (loadCall l .answer .number) 2
-    unfolding loadCall recordOk
-    form-4 p = rw (z, eq-eqb (length l) 16 n, ← e, p)
-
-pub ruleset form-cases = (form-0, form-1, form-2, form-3, form-4)
-
--- lengths, and the numbers of refusals
-module _ (d : Board) (l r n o p : ℕ) where
-  pub sizes-1 : (l ≡ 4096 → ⊥) → false ≡ accessSizes d l r n o p
+  pub sizes-1 : (l ≡ 4096 → ⊥) → false ≡ fit
   sizes-1 a = simp (ne-eqb _ _ a)
 
-  pub sizes-2 : l ≡ 4096 → (r ≡ 4096 → ⊥) → false ≡ accessSizes d l r n o p
+  pub sizes-2 : l ≡ 4096 → (r ≡ 4096 → ⊥) → false ≡ fit
   sizes-2 a b = simp (eq-eqb _ _ a, ne-eqb _ _ b)
 
-  pub sizes-3 : l ≡ 4096 → r ≡ 4096 → (n ≡ 2048 → ⊥) → false ≡ accessSizes d l r n o p
+  pub sizes-3 : l ≡ 4096 → r ≡ 4096 → (n ≡ 2048 → ⊥) → false ≡ fit
   sizes-3 a b c = simp (eq-eqb _ _ a, eq-eqb _ _ b, ne-eqb _ _ c)
 
-  pub sizes-4 : l ≡ 4096 → r ≡ 4096 → n ≡ 2048 → (o ≡ 256 → ⊥) → false ≡ accessSizes d l r n o p
+  pub sizes-4 : l ≡ 4096 → r ≡ 4096 → n ≡ 2048 → (o ≡ 256 → ⊥) → false ≡ fit
   sizes-4 a b c e = simp (eq-eqb _ _ a, eq-eqb _ _ b, eq-eqb _ _ c, ne-eqb _ _ e)
 
-  pub sizes-5 : l ≡ 4096 → r ≡ 4096 → n ≡ 2048 → o ≡ 256 → eqb p 32 ≡ accessSizes d l r n o p
+  pub sizes-5 : l ≡ 4096 → r ≡ 4096 → n ≡ 2048 → o ≡ 256 → eqb p k ≡ fit
   sizes-5 a b c e = simp (eq-eqb _ _ a, eq-eqb _ _ b, eq-eqb _ _ c, eq-eqb _ _ e)
 
 pub ruleset sizes-cases = (sizes-1, sizes-2, sizes-3, sizes-4, sizes-5)
@@ -70,70 +49,90 @@ module _ (o p : ℕ) where
 
 pub ruleset dma-sizes-cases = (dma-sizes-1, dma-sizes-2)
 
-module _ (d : Board) (l r n o b : ℕ) where
-  pub line-sizes-1 : (l ≡ 4096 → ⊥) → false ≡ lineSizes d l r n o b
-  line-sizes-1 a = simp (ne-eqb _ _ a)
+-- the order of the checks
+module _ (s w g d : Bool) where
+  pub order-1 : s ≡ true → w ≡ true → g ≡ true → d ≡ true → 4 ≡ order s w g d
+  unfolding order
+  order-1 x y z t = rw (x, y, z, t)
 
-  pub line-sizes-2 : l ≡ 4096 → (r ≡ 4096 → ⊥) → false ≡ lineSizes d l r n o b
-  line-sizes-2 a c = simp (eq-eqb _ _ a, ne-eqb _ _ c)
+  pub order-2 : s ≡ true → w ≡ true → g ≡ true → d ≡ false → 0 ≡ order s w g d
+  unfolding order
+  order-2 x y z t = rw (x, y, z, t)
 
-  pub line-sizes-3 : l ≡ 4096 → r ≡ 4096 → (n ≡ 2048 → ⊥) → false ≡ lineSizes d l r n o b
-  line-sizes-3 a c e = simp (eq-eqb _ _ a, eq-eqb _ _ c, ne-eqb _ _ e)
+  pub order-3 : s ≡ true → w ≡ true → g ≡ false → 1 ≡ order s w g d
+  unfolding order
+  order-3 x y z = rw (x, y, z)
 
-  pub line-sizes-4 : l ≡ 4096 → r ≡ 4096 → n ≡ 2048 → (o ≡ 256 → ⊥) → false ≡ lineSizes d l r n o b
-  line-sizes-4 a c e f = simp (eq-eqb _ _ a, eq-eqb _ _ c, eq-eqb _ _ e, ne-eqb _ _ f)
+  pub order-4 : s ≡ true → w ≡ false → 3 ≡ order s w g d
+  unfolding order
+  order-4 x y = rw (x, y)
 
-  pub line-sizes-5 : l ≡ 4096 → r ≡ 4096 → n ≡ 2048 → o ≡ 256 → eqb b 256 ≡ lineSizes d l r n o b
-  line-sizes-5 a c e f = simp (eq-eqb _ _ a, eq-eqb _ _ c, eq-eqb _ _ e, eq-eqb _ _ f)
+  pub order-5 : s ≡ false → 2 ≡ order s w g d
+  unfolding order
+  order-5 x = rw x
 
-pub ruleset line-sizes-cases = (line-sizes-1, line-sizes-2, line-sizes-3, line-sizes-4, line-sizes-5)
+pub ruleset order-cases = (order-1, order-2, order-3, order-4, order-5)
 
-module _ (s : Bool) (u : Ppu) (a : ℕ) (k w d : Bool) where
-  pub refusal-1 : s ≡ true → w ≡ isWellFormed u → w ≡ true → a < 8192 → 1 ≡ accessRefusal s u a k
-  unfolding accessRefusal order
-  refusal-1 x e y z = simp (x, ← e, y, lt-leb _ _ z)
+-- a record's refusal
+module _ (l : List ℕ) (k : Bool) where
+  pub formed-1 : (u : Ppu) (w : Bool) → k ≡ bytesOk l → k ≡ true → u ≡ unitOf l → w ≡ isWellFormed u → w ≡ recordOk l
+  unfolding recordOk
+  formed-1 u w e p f g = g ∙ rw (f, ← e, p)
 
-  pub refusal-2 : s ≡ true → w ≡ isWellFormed u → w ≡ true → 8192 ≤ a → 16384 ≤ a → 1 ≡ accessRefusal s u a k
-  unfolding accessRefusal order
-  refusal-2 x e y z z′ = simp (x, ← e, y, le-leb _ _ z, le-ltb _ _ z′)
+  pub formed-2 : k ≡ bytesOk l → k ≡ false → false ≡ recordOk l
+  unfolding recordOk
+  formed-2 e p = rw (← e, p)
 
-  pub refusal-3 : s ≡ true → w ≡ isWellFormed u → w ≡ true → 8192 ≤ a → a < 16384 → d ≡ isDrawing u → d ≡ true → k ≡ true → 4 ≡ accessRefusal s u a k
-  unfolding accessRefusal order
-  refusal-3 x e y z z′ f g h = simp (x, ← e, y, le-leb _ _ z, lt-ltb _ _ z′, ← f, g, h)
+pub ruleset formed-cases = (formed-1, formed-2)
 
-  pub refusal-4 : s ≡ true → w ≡ isWellFormed u → w ≡ true → 8192 ≤ a → a < 16384 → d ≡ isDrawing u → d ≡ true → k ≡ false → 0 ≡ accessRefusal s u a k
-  unfolding accessRefusal order
-  refusal-4 x e y z z′ f g h = simp (x, ← e, y, le-leb _ _ z, lt-ltb _ _ z′, ← f, g, h)
+either : (s w : Bool) (u : Ppu) → order s w true false ≡ cond s (cond w (made u) (unmade 3) .answer .number) 2
+unfolding order
+either true true u = refl
+either true false u = refl
+either false w u = refl
 
-  pub refusal-5 : s ≡ true → w ≡ isWellFormed u → w ≡ true → 8192 ≤ a → a < 16384 → d ≡ isDrawing u → d ≡ false → 0 ≡ accessRefusal s u a k
-  unfolding accessRefusal order
-  refusal-5 x e y z z′ f g = simp (x, ← e, y, le-leb _ _ z, lt-ltb _ _ z′, ← f, g)
+same : (s : Bool) (n : ℕ) → n ≡ cond s n n
+same true n = refl
+same false n = refl
 
-  pub refusal-6 : s ≡ true → w ≡ isWellFormed u → w ≡ false → 3 ≡ accessRefusal s u a k
-  unfolding accessRefusal order
-  refusal-6 x e y = simp (x, ← e, y)
+module _ (s : Bool) (l : List ℕ) (r : ℕ) where
+  pub form-1 : (w : Bool) → length l ≡ 16 → w ≡ recordOk l → r ≡ order s w true false → r ≡ cond s (loadCall l .answer .number) 2
+  unfolding loadCall
+  form-1 w n e f = f ∙ rw (eq-eqb (length l) 16 n, e) (either s (recordOk l) (unitOf l))
 
-module _ (s : Bool) (u : Ppu) (a : ℕ) (k : Bool) where
-  pub refusal-7 : s ≡ false → 2 ≡ accessRefusal s u a k
-  unfolding accessRefusal order
-  refusal-7 x = simp x
+  pub form-2 : (length l ≡ 16 → ⊥) → r ≡ 2 → r ≡ cond s (loadCall l .answer .number) 2
+  unfolding loadCall
+  form-2 p f = f ∙ rw (ne-eqb (length l) 16 p) (same s 2)
 
-pub ruleset refusal-cases = (refusal-1, refusal-2, refusal-3, refusal-4, refusal-5, refusal-6, refusal-7)
+pub ruleset form-cases = (form-1, form-2)
 
-module _ (s : Bool) (u : Ppu) where
-  pub plain-1 : (w : Bool) → s ≡ true → w ≡ isWellFormed u → w ≡ true → 0 ≡ plainRefusal s u
-  unfolding plainRefusal order
-  plain-1 w x e y = simp (x, ← e, y)
+-- an access's refusal
+module _ (a : ℕ) where
+  pub range-1 : a < 8192 → false ≡ addressOk a
+  range-1 h = rw (lt-leb 8192 a h)
 
-  pub plain-2 : (w : Bool) → s ≡ true → w ≡ isWellFormed u → w ≡ false → 3 ≡ plainRefusal s u
-  unfolding plainRefusal order
-  plain-2 w x e y = simp (x, ← e, y)
+  pub range-2 : 8192 ≤ a → ltb a 16384 ≡ addressOk a
+  range-2 h = rw (le-leb 8192 a h)
 
-  pub plain-3 : s ≡ false → 2 ≡ plainRefusal s u
-  unfolding plainRefusal order
-  plain-3 x = simp x
+pub ruleset range-cases = (range-1, range-2)
 
-pub ruleset plain-cases = (plain-1, plain-2, plain-3)
+module _ (u : Ppu) (d b : Bool) where
+  pub shut-1 : d ≡ isDrawing u → d ≡ true → b ≡ (isDrawing u && b)
+  shut-1 e p = rw (← e, p)
+
+  pub shut-2 : d ≡ isDrawing u → d ≡ false → false ≡ (isDrawing u && b)
+  shut-2 e p = rw (← e, p)
+
+pub ruleset shut-cases = (shut-1, shut-2)
+
+module _ (s : Bool) (u : Ppu) (w : Bool) (e : w ≡ isWellFormed u) (r : ℕ) where
+  pub access-1 : (a : ℕ) (b g d : Bool) → g ≡ addressOk a → d ≡ (isDrawing u && b) → r ≡ order s w g d → r ≡ accessRefusal s u a b
+  unfolding accessRefusal
+  access-1 a b g d f h k = k ∙ rw (e, f, h)
+
+  pub plain-1 : r ≡ order s w true false → r ≡ plainRefusal s u
+  unfolding plainRefusal
+  plain-1 k = k ∙ rw e
 
 module _ (a : ℕ) where
   pub blocked-1 : a % 8 ≡ 4 → true ≡ blockedRead a

@@ -1,9 +1,12 @@
 // What the public calls share: the numbers of their refusals, and what an exported call leaves of its answer. Inner functions.
-// zero_board, unmade; lengths: access_sizes, dma_sizes, line_sizes; refusals: record_refusal, access_refusal, plain_refusal, blocked_read;
-// the record and the packed answer: finish. Within: pack, save_after.
+// zero_board, unmade; lengths: access_sizes, dma_sizes, line_sizes; refusals: record_refusal, access_refusal, plain_refusal, blocked_read,
+// by first_refusal; the record and the packed answer: finish.
 ghost use mathlib.Core.Path.{_≡_};
-ghost use mathlib.Core.Bool.{cond};
-ghost use Rattle.model.specs.Unit.{zeroUnit};
+ghost use mathlib.Core.Bool.{cond, _&&_};
+ghost use lib.Dec.{eqb};
+ghost use lib.ListN.{length};
+ghost use Rattle.model.specs.Unit.{zeroUnit, patternLength, nametableLength, oamLength, recordLength, isDrawing};
+ghost use Rattle.model.specs.Record.{recordOk};
 ghost use Rattle.model.specs.Calls.{
   unmade as unmadeOf,
   loadCall,
@@ -12,6 +15,8 @@ ghost use Rattle.model.specs.Calls.{
   accessSizes,
   dmaSizes,
   lineSizes,
+  addressOk,
+  order,
   accessRefusal,
   plainRefusal,
   blockedRead,
@@ -41,16 +46,17 @@ pub fn unmade(number: u8) -> Access
     unit::refused(number, u)
 }
 
-// The lengths of what an access is lent.
-pub fn access_sizes(
+// The lengths of what an access, a line and a run are lent alike, and of one memory more: `last` bytes, of which there are to be `wanted`.
+fn sizes(
     board: Board,
     left: usize,
     right: usize,
     nametables: usize,
     oam: usize,
-    palette: usize,
+    last: usize,
+    wanted: usize,
 ) -> bool
-    ensures { λ r. ⌜ r ≡ accessSizes board left right nametables oam palette ⌝ }
+    ensures { λ r. ⌜ r ≡ (eqb left patternLength && (eqb right patternLength && (eqb nametables (nametableLength board) && (eqb oam oamLength && eqb last wanted)))) ⌝ }
 {
     if left != 4096 {
         return false;
@@ -64,7 +70,21 @@ pub fn access_sizes(
     if oam != 256 {
         return false;
     }
-    palette == 32
+    last == wanted
+}
+
+// The lengths of what an access is lent.
+pub fn access_sizes(
+    board: Board,
+    left: usize,
+    right: usize,
+    nametables: usize,
+    oam: usize,
+    palette: usize,
+) -> bool
+    ensures { λ r. ⌜ r ≡ accessSizes board left right nametables oam palette ⌝ }
+{
+    sizes(board, left, right, nametables, oam, palette, 32)
 }
 
 // The lengths of what sprite DMA is lent.
@@ -88,77 +108,85 @@ pub fn line_sizes(
 ) -> bool
     ensures { λ r. ⌜ r ≡ lineSizes board left right nametables oam line ⌝ }
 {
-    if left != 4096 {
-        return false;
-    }
-    if right != 4096 {
-        return false;
-    }
-    if nametables != 2048 {
-        return false;
-    }
-    if oam != 256 {
-        return false;
-    }
-    line == 256
+    sizes(board, left, right, nametables, oam, line, 256)
 }
 
-// The number of the refusal of a record, 0 where there is none. `sized`: what is lent beside it has the right lengths.
-pub fn record_refusal(sized: bool, saved: &[u8]) -> u8
-    ensures { λ r. ⌜ r ≡ cond sized (loadCall (now (saved .entry)) .answer .number) 2 ⌝ }
+// The number of the first refusal, in the order of the checks: 2, 3, 1, 4. 0 where there is none.
+fn first_refusal(sized: bool, formed: bool, ranged: bool, shut: bool) -> u8
+    ensures { λ r. ⌜ r ≡ order sized formed ranged shut ⌝ }
 {
     if sized {
-        if saved.len() != 16 {
-            return 2;
-        }
-        if record::bytes_ok(saved) {
-            let u = record::read_unit(saved);
-            if unit::well_formed(u) {
-                return 0;
-            }
-            return 3;
-        }
-        return 3;
-    }
-    2
-}
-
-// The number of an access's refusal, 0 where there is none. `blocked`: refused while drawing.
-pub fn access_refusal(sized: bool, u: Ppu, address: u16, blocked: bool) -> u8
-    ensures { λ r. ⌜ r ≡ accessRefusal sized u address blocked ⌝ }
-{
-    if sized {
-        if unit::well_formed(u) {
-            if address < 8192 {
-                return 1;
-            }
-            if address >= 16384 {
-                return 1;
-            }
-            if unit::drawing(u) {
-                if blocked {
+        if formed {
+            if ranged {
+                if shut {
                     return 4;
                 }
                 return 0;
             }
-            return 0;
+            return 1;
         }
         return 3;
     }
     2
+}
+
+// A record of 16 bytes is well formed.
+fn record_formed(saved: &[u8]) -> bool
+    requires { ⌜ length (now saved) ≡ recordLength ⌝ }
+    ensures { λ r. ⌜ r ≡ recordOk (now (saved .entry)) ⌝ }
+{
+    if record::bytes_ok(saved) {
+        let u = record::read_unit(saved);
+        return unit::well_formed(u);
+    }
+    false
+}
+
+// The number of the refusal of a record. `sized`: what is lent beside it has the right lengths.
+pub fn record_refusal(sized: bool, saved: &[u8]) -> u8
+    ensures { λ r. ⌜ r ≡ cond sized (loadCall (now (saved .entry)) .answer .number) 2 ⌝ }
+{
+    if saved.len() == 16 {
+        let formed = record_formed(saved);
+        return first_refusal(sized, formed, true, false);
+    }
+    2
+}
+
+// An address within $2000-$3FFF.
+fn in_range(address: u16) -> bool
+    ensures { λ r. ⌜ r ≡ addressOk address ⌝ }
+{
+    if address < 8192 {
+        return false;
+    }
+    address < 16384
+}
+
+// Drawing, and the access is one that drawing shuts out.
+fn shut_out(u: Ppu, blocked: bool) -> bool
+    ensures { λ r. ⌜ r ≡ (isDrawing u && blocked) ⌝ }
+{
+    if unit::drawing(u) {
+        return blocked;
+    }
+    false
+}
+
+// The number of an access's refusal. `blocked`: refused while drawing.
+pub fn access_refusal(sized: bool, u: Ppu, address: u16, blocked: bool) -> u8
+    ensures { λ r. ⌜ r ≡ accessRefusal sized u address blocked ⌝ }
+{
+    let formed = unit::well_formed(u);
+    let shut = shut_out(u, blocked);
+    first_refusal(sized, formed, in_range(address), shut)
 }
 
 // The number of the refusal of a call that takes no address.
 pub fn plain_refusal(sized: bool, u: Ppu) -> u8
     ensures { λ r. ⌜ r ≡ plainRefusal sized u ⌝ }
 {
-    if sized {
-        if unit::well_formed(u) {
-            return 0;
-        }
-        return 3;
-    }
-    2
+    first_refusal(sized, unit::well_formed(u), true, false)
 }
 
 // A read of this address's port is refused while drawing: port 4 or 7.
