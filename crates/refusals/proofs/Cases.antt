@@ -1,6 +1,6 @@
 -- The ways of each function, for `search`.
 use Prim.Native.Nat.{ℕ, _+_, _*_, _%_, _<_, _≤_}
-use mathlib.Core.Path.{_≡_, refl, ap, _∙_}
+use mathlib.Core.Path.{_≡_, ap, _∙_}
 use mathlib.Core.Bool.{Bool, true, false, cond, _&&_}
 use mathlib.Core.List.{List}
 use native.Mathlib.Omega.{arith}
@@ -13,7 +13,7 @@ use Rattle.model.specs.declared.Answer.{Answer}
 use Rattle.model.specs.declared.Access.{Access}
 use Rattle.model.specs.Unit.{patternLength, nametableLength, oamLength, fresh, zeroUnit, isWellFormed, isDrawing}
 use Rattle.model.specs.Record.{unitOf, recordOf, bytesOk, recordOk}
-use Rattle.model.specs.Calls.{refusedAccess, made, unmade, loadCall, packed, savedBytes, dmaSizes, addressOk, blockedRead, order, accessRefusal, plainRefusal}
+use Rattle.model.specs.Calls.{refusedAccess, unmade, loadCall, packed, savedBytes, dmaSizes, addressOk, blockedRead, order, accessRefusal, plainRefusal}
 
 pub unmade-1 : (n : ℕ) (d : Board) (u : Ppu) (r : Access) → d ≡ zeroUnit .board → u ≡ fresh d → r ≡ refusedAccess n u → r ≡ unmade n
 unmade-1 n d u r e f g = g ∙ ap (refusedAccess n) (f ∙ ap fresh e)
@@ -49,62 +49,29 @@ module _ (o p : ℕ) where
 
 pub ruleset dma-sizes-cases = (dma-sizes-1, dma-sizes-2)
 
--- the order of the checks
-module _ (s w g d : Bool) where
-  pub order-1 : s ≡ true → w ≡ true → g ≡ true → d ≡ true → 4 ≡ order s w g d
-  unfolding order
-  order-1 x y z t = rw (x, y, z, t)
+-- the number of a record's refusal; s: what is lent beside it has the right lengths
+module _ (s : Bool) (l : List ℕ) where
+  pub form-0 : s ≡ false → 2 ≡ cond s (loadCall l .answer .number) 2
+  form-0 z = rw z
 
-  pub order-2 : s ≡ true → w ≡ true → g ≡ true → d ≡ false → 0 ≡ order s w g d
-  unfolding order
-  order-2 x y z t = rw (x, y, z, t)
-
-  pub order-3 : s ≡ true → w ≡ true → g ≡ false → 1 ≡ order s w g d
-  unfolding order
-  order-3 x y z = rw (x, y, z)
-
-  pub order-4 : s ≡ true → w ≡ false → 3 ≡ order s w g d
-  unfolding order
-  order-4 x y = rw (x, y)
-
-  pub order-5 : s ≡ false → 2 ≡ order s w g d
-  unfolding order
-  order-5 x = rw x
-
-pub ruleset order-cases = (order-1, order-2, order-3, order-4, order-5)
-
--- a record's refusal
-module _ (l : List ℕ) (k : Bool) where
-  pub formed-1 : (u : Ppu) (w : Bool) → k ≡ bytesOk l → k ≡ true → u ≡ unitOf l → w ≡ isWellFormed u → w ≡ recordOk l
-  unfolding recordOk
-  formed-1 u w e p f g = g ∙ rw (f, ← e, p)
-
-  pub formed-2 : k ≡ bytesOk l → k ≡ false → false ≡ recordOk l
-  unfolding recordOk
-  formed-2 e p = rw (← e, p)
-
-pub ruleset formed-cases = (formed-1, formed-2)
-
-either : (s w : Bool) (u : Ppu) → order s w true false ≡ cond s (cond w (made u) (unmade 3) .answer .number) 2
-unfolding order
-either true true u = refl
-either true false u = refl
-either false w u = refl
-
-same : (s : Bool) (n : ℕ) → n ≡ cond s n n
-same true n = refl
-same false n = refl
-
-module _ (s : Bool) (l : List ℕ) (r : ℕ) where
-  pub form-1 : (w : Bool) → length l ≡ 16 → w ≡ recordOk l → r ≡ order s w true false → r ≡ cond s (loadCall l .answer .number) 2
+  pub form-1 : s ≡ true → (length l ≡ 16 → ⊥) → 2 ≡ cond s (loadCall l .answer .number) 2
   unfolding loadCall
-  form-1 w n e f = f ∙ rw (eq-eqb (length l) 16 n, e) (either s (recordOk l) (unitOf l))
+  form-1 z p = rw (z, ne-eqb (length l) 16 p)
 
-  pub form-2 : (length l ≡ 16 → ⊥) → r ≡ 2 → r ≡ cond s (loadCall l .answer .number) 2
-  unfolding loadCall
-  form-2 p f = f ∙ rw (ne-eqb (length l) 16 p) (same s 2)
+  module _ (k : Bool) (z : s ≡ true) (n : length l ≡ 16) (e : k ≡ bytesOk l) where
+    pub form-2 : (w : Bool) (u : Ppu) → k ≡ true → u ≡ unitOf l → w ≡ isWellFormed u → w ≡ true → 0 ≡ cond s (loadCall l .answer .number) 2
+    unfolding loadCall recordOk
+    form-2 w u p f g q = rw (z, eq-eqb (length l) 16 n, ← e, p, ← f, ← g, q)
 
-pub ruleset form-cases = (form-1, form-2)
+    pub form-3 : (w : Bool) (u : Ppu) → k ≡ true → u ≡ unitOf l → w ≡ isWellFormed u → w ≡ false → 3 ≡ cond s (loadCall l .answer .number) 2
+    unfolding loadCall recordOk
+    form-3 w u p f g q = rw (z, eq-eqb (length l) 16 n, ← e, p, ← f, ← g, q)
+
+    pub form-4 : k ≡ false → 3 ≡ cond s (loadCall l .answer .number) 2
+    unfolding loadCall recordOk
+    form-4 p = rw (z, eq-eqb (length l) 16 n, ← e, p)
+
+pub ruleset form-cases = (form-0, form-1, form-2, form-3, form-4)
 
 -- an access's refusal
 module _ (a : ℕ) where
@@ -116,23 +83,50 @@ module _ (a : ℕ) where
 
 pub ruleset range-cases = (range-1, range-2)
 
-module _ (u : Ppu) (d b : Bool) where
-  pub shut-1 : d ≡ isDrawing u → d ≡ true → b ≡ (isDrawing u && b)
-  shut-1 e p = rw (← e, p)
+module _ (s : Bool) (u : Ppu) (a : ℕ) (k : Bool) where
+  module _ (w : Bool) (x : s ≡ true) (e : w ≡ isWellFormed u) where
+    pub refusal-1 : w ≡ false → 3 ≡ accessRefusal s u a k
+    unfolding accessRefusal order
+    refusal-1 y = rw (x, ← e, y)
 
-  pub shut-2 : d ≡ isDrawing u → d ≡ false → false ≡ (isDrawing u && b)
-  shut-2 e p = rw (← e, p)
+    module _ (g : Bool) (y : w ≡ true) (f : g ≡ addressOk a) where
+      pub refusal-2 : g ≡ false → 1 ≡ accessRefusal s u a k
+      unfolding accessRefusal order
+      refusal-2 z = rw (x, ← e, y, ← f, z)
 
-pub ruleset shut-cases = (shut-1, shut-2)
+      module _ (d : Bool) (z : g ≡ true) (h : d ≡ isDrawing u) where
+        pub refusal-3 : d ≡ true → k ≡ true → 4 ≡ accessRefusal s u a k
+        unfolding accessRefusal order
+        refusal-3 p q = rw (x, ← e, y, ← f, z, ← h, p, q)
 
-module _ (s : Bool) (u : Ppu) (w : Bool) (e : w ≡ isWellFormed u) (r : ℕ) where
-  pub access-1 : (a : ℕ) (b g d : Bool) → g ≡ addressOk a → d ≡ (isDrawing u && b) → r ≡ order s w g d → r ≡ accessRefusal s u a b
-  unfolding accessRefusal
-  access-1 a b g d f h k = k ∙ rw (e, f, h)
+        pub refusal-4 : d ≡ true → k ≡ false → 0 ≡ accessRefusal s u a k
+        unfolding accessRefusal order
+        refusal-4 p q = rw (x, ← e, y, ← f, z, ← h, p, q)
 
-  pub plain-1 : r ≡ order s w true false → r ≡ plainRefusal s u
-  unfolding plainRefusal
-  plain-1 k = k ∙ rw e
+        pub refusal-5 : d ≡ false → 0 ≡ accessRefusal s u a k
+        unfolding accessRefusal order
+        refusal-5 p = rw (x, ← e, y, ← f, z, ← h, p)
+
+  pub refusal-6 : s ≡ false → 2 ≡ accessRefusal s u a k
+  unfolding accessRefusal order
+  refusal-6 x = rw x
+
+pub ruleset refusal-cases = (refusal-1, refusal-2, refusal-3, refusal-4, refusal-5, refusal-6)
+
+module _ (s : Bool) (u : Ppu) where
+  pub plain-1 : (w : Bool) → s ≡ true → w ≡ isWellFormed u → w ≡ true → 0 ≡ plainRefusal s u
+  unfolding plainRefusal order
+  plain-1 w x e y = simp (x, ← e, y)
+
+  pub plain-2 : (w : Bool) → s ≡ true → w ≡ isWellFormed u → w ≡ false → 3 ≡ plainRefusal s u
+  unfolding plainRefusal order
+  plain-2 w x e y = simp (x, ← e, y)
+
+  pub plain-3 : s ≡ false → 2 ≡ plainRefusal s u
+  unfolding plainRefusal order
+  plain-3 x = simp x
+
+pub ruleset plain-cases = (plain-1, plain-2, plain-3)
 
 module _ (a : ℕ) where
   pub blocked-1 : a % 8 ≡ 4 → true ≡ blockedRead a

@@ -1,12 +1,10 @@
 // What the public calls share: the numbers of their refusals, and what an exported call leaves of its answer. Inner functions.
-// zero_board, unmade; lengths: access_sizes, dma_sizes, line_sizes; refusals: record_refusal, access_refusal, plain_refusal, blocked_read,
-// by first_refusal; the record and the packed answer: finish.
+// zero_board, unmade; lengths: access_sizes, dma_sizes, line_sizes; refusals: record_refusal, access_refusal, plain_refusal, blocked_read;
+// the record and the packed answer: finish.
 ghost use mathlib.Core.Path.{_≡_};
 ghost use mathlib.Core.Bool.{cond, _&&_};
 ghost use lib.Dec.{eqb};
-ghost use lib.ListN.{length};
-ghost use Rattle.model.specs.Unit.{zeroUnit, patternLength, nametableLength, oamLength, recordLength, isDrawing};
-ghost use Rattle.model.specs.Record.{recordOk};
+ghost use Rattle.model.specs.Unit.{zeroUnit, patternLength, nametableLength, oamLength};
 ghost use Rattle.model.specs.Calls.{
   unmade as unmadeOf,
   loadCall,
@@ -16,7 +14,6 @@ ghost use Rattle.model.specs.Calls.{
   dmaSizes,
   lineSizes,
   addressOk,
-  order,
   accessRefusal,
   plainRefusal,
   blockedRead,
@@ -111,44 +108,22 @@ pub fn line_sizes(
     sizes(board, left, right, nametables, oam, line, 256)
 }
 
-// The number of the first refusal, in the order of the checks: 2, 3, 1, 4. 0 where there is none.
-fn first_refusal(sized: bool, formed: bool, ranged: bool, shut: bool) -> u8
-    ensures { λ r. ⌜ r ≡ order sized formed ranged shut ⌝ }
-{
-    if sized {
-        if formed {
-            if ranged {
-                if shut {
-                    return 4;
-                }
-                return 0;
-            }
-            return 1;
-        }
-        return 3;
-    }
-    2
-}
-
-// A record of 16 bytes is well formed.
-fn record_formed(saved: &[u8]) -> bool
-    requires { ⌜ length (now saved) ≡ recordLength ⌝ }
-    ensures { λ r. ⌜ r ≡ recordOk (now (saved .entry)) ⌝ }
-{
-    if record::bytes_ok(saved) {
-        let u = record::read_unit(saved);
-        return unit::well_formed(u);
-    }
-    false
-}
-
-// The number of the refusal of a record. `sized`: what is lent beside it has the right lengths.
+// The number of the refusal of a record, 0 where there is none. `sized`: what is lent beside it has the right lengths.
 pub fn record_refusal(sized: bool, saved: &[u8]) -> u8
     ensures { λ r. ⌜ r ≡ cond sized (loadCall (now (saved .entry)) .answer .number) 2 ⌝ }
 {
-    if saved.len() == 16 {
-        let formed = record_formed(saved);
-        return first_refusal(sized, formed, true, false);
+    if sized {
+        if saved.len() != 16 {
+            return 2;
+        }
+        if record::bytes_ok(saved) {
+            let u = record::read_unit(saved);
+            if unit::well_formed(u) {
+                return 0;
+            }
+            return 3;
+        }
+        return 3;
     }
     2
 }
@@ -163,30 +138,40 @@ fn in_range(address: u16) -> bool
     address < 16384
 }
 
-// Drawing, and the access is one that drawing shuts out.
-fn shut_out(u: Ppu, blocked: bool) -> bool
-    ensures { λ r. ⌜ r ≡ (isDrawing u && blocked) ⌝ }
-{
-    if unit::drawing(u) {
-        return blocked;
-    }
-    false
-}
-
-// The number of an access's refusal. `blocked`: refused while drawing.
+// The number of an access's refusal, 0 where there is none. `blocked`: refused while drawing.
 pub fn access_refusal(sized: bool, u: Ppu, address: u16, blocked: bool) -> u8
     ensures { λ r. ⌜ r ≡ accessRefusal sized u address blocked ⌝ }
 {
-    let formed = unit::well_formed(u);
-    let shut = shut_out(u, blocked);
-    first_refusal(sized, formed, in_range(address), shut)
+    if sized {
+        let formed = unit::well_formed(u);
+        if formed {
+            if in_range(address) {
+                if unit::drawing(u) {
+                    if blocked {
+                        return 4;
+                    }
+                    return 0;
+                }
+                return 0;
+            }
+            return 1; // the address
+        }
+        return 3; // the unit
+    }
+    2
 }
 
 // The number of the refusal of a call that takes no address.
 pub fn plain_refusal(sized: bool, u: Ppu) -> u8
     ensures { λ r. ⌜ r ≡ plainRefusal sized u ⌝ }
 {
-    first_refusal(sized, unit::well_formed(u), true, false)
+    if sized {
+        if unit::well_formed(u) {
+            return 0;
+        }
+        return 3;
+    }
+    2
 }
 
 // A read of this address's port is refused while drawing: port 4 or 7.

@@ -10,7 +10,7 @@ step-requires : tie.Need-step-requires
 step-requires c κs = search needs
 
 returns : tie.Need-returns
-returns c = search data-1
+returns c = search (data-1)
 
 pub read-data-spec : {M : Type 1} → statement M
 read-data-spec = tie.close (tie.spec step-requires returns)
