@@ -35,7 +35,7 @@ fn read_byte(u: Ppu, port: u16, oam: &[u8], palette: &[u8]) -> u8
     ensures { λ r. ⌜ r ≡ readByte port u (accessCells [] [] [] (now (oam .entry)) (now (palette .entry))) ⌝ }
 {
     if port == 2 {
-        return registers::status_byte(u);
+        return reads::status_byte(u);
     }
     if port == 4 {
         return memory::oam_byte(u.oamaddr, oam);
@@ -45,7 +45,7 @@ fn read_byte(u: Ppu, port: u16, oam: &[u8], palette: &[u8]) -> u8
             return u.buffer;
         }
         let entry = memory::palette_byte(u.v, palette);
-        return registers::palette_answer(u, entry);
+        return reads::palette_answer(u, entry);
     }
     u.latch
 }
@@ -64,14 +64,14 @@ fn read_unit(
     ensures { λ r. ⌜ r ≡ readUnit port u answer (video (now (left .entry)) (now (right .entry)) (now (nametables .entry)) (now (palette .entry))) ⌝ }
 {
     if port == 2 {
-        return registers::read_status(u, answer);
+        return reads::read_status(u, answer);
     }
     if port == 7 {
         let board = u.board;
         let buffer = memory::buffer_byte(board, u.v, left, right, nametables, palette);
-        return registers::read_data(u, answer, buffer);
+        return reads::read_data(u, answer, buffer);
     }
-    registers::fill_latch(u, answer)
+    reads::fill_latch(u, answer)
 }
 
 // An accepted read of a port.

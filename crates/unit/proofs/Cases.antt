@@ -1,13 +1,14 @@
 -- The ways of each function: what a definition is under the tests that a way has passed. `search` finds the tests by itself.
 use Prim.Native.Nat.{ℕ, _+_, _-_, _*_, _/_, _%_, _<_, _≤_}
-use mathlib.Core.Path.{_≡_, _∙_}
+use mathlib.Core.Path.{_≡_, ap, _∙_}
 use mathlib.Core.Bool.{Bool, true, false, not}
 use native.Mathlib.Omega.{arith}
 use lib.Dec.{eqb, ltb}
 use borrow.Author.Tests.{eq-eqb, ne-eqb, lt-ltb, le-ltb}
 use Rattle.model.specs.declared.Ppu.{Ppu}
 use Rattle.model.specs.declared.Access.{Access}
-use Rattle.model.specs.Unit.{bit, isRendering, isDrawing, isWellFormed, nmiLevel}
+use Rattle.model.specs.Unit.{withV, bit, isRendering, isDrawing, isWellFormed, nmiLevel}
+use Rattle.model.specs.Ports.{stepped}
 use Rattle.model.specs.Scroll.{turn10, turn11, rowDown, right, copySide}
 use Rattle.model.specs.Calls.{answer, access, doneAnswer}
 
@@ -103,3 +104,15 @@ pub ruleset right-cases = (right-1, right-2)
 -- a call that is done, by the NMI level that the code found
 pub done-1 : (b k : ℕ) (u : Ppu) (n : Bool) (r : Access) → n ≡ nmiLevel u → r ≡ access (answer 0 b k n) u → r ≡ access (doneAnswer b k u) u
 done-1 b k u n r e f = f ∙ rw e
+
+-- after an access of port 7
+module _ (u : Ppu) where
+  pub step-1 : u .control / 4 % 2 ≡ 1 → withV u ((u .v % 32768 + 32) % 32768) ≡ stepped u
+  unfolding stepped
+  step-1 p = simp (eq-eqb _ _ p) (ap (withV u) (omega arith))
+
+  pub step-2 : (u .control / 4 % 2 ≡ 1 → ⊥) → withV u ((u .v % 32768 + 1) % 32768) ≡ stepped u
+  unfolding stepped
+  step-2 p = simp (ne-eqb _ _ p) (ap (withV u) (omega arith))
+
+pub ruleset step-cases = (step-1, step-2)

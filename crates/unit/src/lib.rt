@@ -1,9 +1,10 @@
 // The unit by itself: Ppu -> Ppu, no memory. Inner functions, not public calls.
-// rendering, drawing, well_formed, nmi; v's steps: row_down, column_right, copy_side;
+// rendering, drawing, well_formed, nmi; v's steps: row_down, column_right, copy_side, and step after an access of port 7;
 // what a call hands back: done, refused.
 ghost use mathlib.Core.Path.{_≡_};
 ghost use Prim.Native.Nat.{_+_, _*_, _/_, _%_, _<_};
 ghost use Rattle.model.specs.Unit.{isRendering, isDrawing, isWellFormed, nmiLevel};
+ghost use Rattle.model.specs.Ports.{stepped};
 ghost use Rattle.model.specs.Scroll.{turn10, turn11, rowDown, right, copySide};
 ghost use Rattle.model.specs.Calls.{access, doneAnswer, refusedAccess};
 use model::Access;
@@ -118,6 +119,23 @@ pub fn copy_side(t: u16, v: u16) -> u16
 {
     let up = (v >> 11) * 2048 + bits::low16(v >> 5, 5) * 32;
     up + bits::low16(t >> 10, 1) * 1024 + bits::low16(t, 5)
+}
+
+// v after an access of port 7: up by 1, or 32 if control bit 2.
+pub fn step(u: Ppu) -> Ppu
+    ensures { λ r. ⌜ r ≡ stepped u ⌝ }
+{
+    let v = u.v % 32768;
+    if u.control / 4 % 2 == 1 {
+        return Ppu {
+            v: (v + 32) % 32768,
+            ..u
+        };
+    }
+    Ppu {
+        v: (v + 1) % 32768,
+        ..u
+    }
 }
 
 // A call that is done: its byte, its line count, and the NMI level after it.

@@ -6,8 +6,8 @@ use Rattle.ports.proofs.read_byte.Reads as reads
 use Rattle.ports.proofs.read_byte.Lts as lts
 use Rattle.memory.proofs.oam_byte.Reads as oam-byte-reads
 use Rattle.memory.proofs.palette_byte.Reads as palette-byte-reads
-use Rattle.registers.proofs.palette_answer.Reads as palette-answer-reads
-use Rattle.registers.proofs.status_byte.Reads as status-byte-reads
+use Rattle.reads.proofs.palette_answer.Reads as palette-answer-reads
+use Rattle.reads.proofs.status_byte.Reads as status-byte-reads
 
 status-byte-requires : tie.Need-status-byte-requires
 status-byte-requires c κs = search needs

@@ -5,9 +5,9 @@ use Rattle.ports.proofs.read_unit.Tie as tie
 use Rattle.ports.proofs.read_unit.Reads as reads
 use Rattle.ports.proofs.read_unit.Lts as lts
 use Rattle.memory.proofs.buffer_byte.Reads as buffer-byte-reads
-use Rattle.registers.proofs.fill_latch.Reads as fill-latch-reads
-use Rattle.registers.proofs.read_data.Reads as read-data-reads
-use Rattle.registers.proofs.read_status.Reads as read-status-reads
+use Rattle.reads.proofs.fill_latch.Reads as fill-latch-reads
+use Rattle.reads.proofs.read_data.Reads as read-data-reads
+use Rattle.reads.proofs.read_status.Reads as read-status-reads
 
 read-status-requires : tie.Need-read-status-requires
 read-status-requires c κs = search needs

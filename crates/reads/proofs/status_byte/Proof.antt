@@ -1,9 +1,9 @@
-use Rattle.registers.proofs.Cases.{status-1}
+use Rattle.reads.proofs.Cases.{status-1}
 use borrow.Author.Needs.{needs}
-use Rattle.registers.proofs.status_byte.Statement.{statement}
-use Rattle.registers.proofs.status_byte.Tie as tie
-use Rattle.registers.proofs.status_byte.Reads as reads
-use Rattle.registers.proofs.status_byte.Lts as lts
+use Rattle.reads.proofs.status_byte.Statement.{statement}
+use Rattle.reads.proofs.status_byte.Tie as tie
+use Rattle.reads.proofs.status_byte.Reads as reads
+use Rattle.reads.proofs.status_byte.Lts as lts
 
 mul-result : tie.Need-mul-result
 mul-result c = search needs

@@ -1,9 +1,9 @@
-use Rattle.registers.proofs.Cases.{palette-cases}
+use Rattle.reads.proofs.Cases.{palette-cases}
 use borrow.Author.Needs.{needs}
-use Rattle.registers.proofs.palette_answer.Statement.{statement}
-use Rattle.registers.proofs.palette_answer.Tie as tie
-use Rattle.registers.proofs.palette_answer.Reads as reads
-use Rattle.registers.proofs.palette_answer.Lts as lts
+use Rattle.reads.proofs.palette_answer.Statement.{statement}
+use Rattle.reads.proofs.palette_answer.Tie as tie
+use Rattle.reads.proofs.palette_answer.Reads as reads
+use Rattle.reads.proofs.palette_answer.Lts as lts
 
 mul-top : tie.Need-mul-top
 mul-top c = search needs
