@@ -16,7 +16,7 @@ use Rattle.model.proofs.Scroll.{right-in, lt-or-ge, by-in, by-out}
 use Rattle.model.proofs.Tab.{tab-none, tab-done, tab-cong, getD-tab}
 use Rattle.pixels.specs.Row.{storeTab}
 use Rattle.pixels.proofs.Store.{tile-more}
-use Rattle.background.specs.Strips.{rowLength, stripOf, paletteOf, columnPixel, stripPixel, besideOf, groupStart, shifted}
+use Rattle.strips.specs.Strips.{rowLength, stripOf, paletteOf, columnPixel, stripPixel, besideOf, groupStart, shifted}
 
 -- the tile number's address and the attribute byte's: their quarter, and their place in the page
 tile-quarter : (v : ℕ) → (8192 + v % 4096) / 1024 % 4 ≡ nametable v

@@ -5,7 +5,7 @@ use lib.ListN.{length, length-set, drop}
 use Rattle.model.specs.Unit.{lineLength}
 use Rattle.model.specs.Line.{tab}
 use Rattle.model.proofs.Tab.{tab-none}
-use Rattle.background.specs.Strips.{shifted}
+use Rattle.strips.specs.Strips.{shifted}
 use Rattle.background.proofs.Cases.{shift-cases}
 use borrow.Author.Needs.{needs}
 use Rattle.background.proofs.shift.Statement.{statement}

@@ -4,8 +4,8 @@ use Rattle.background.proofs.tiles.Statement.{statement}
 use Rattle.background.proofs.tiles.Tie as tie
 use Rattle.background.proofs.tiles.Reads as reads
 use Rattle.background.proofs.tiles.Lts as lts
-use Rattle.background.proofs.run.Reads as run-reads
-use Rattle.background.proofs.strip_at.Reads as strip-at-reads
+use Rattle.strips.proofs.run.Reads as run-reads
+use Rattle.strips.proofs.strip_at.Reads as strip-at-reads
 use Rattle.bits.proofs.low.Reads as low-reads
 
 low-requires : tie.Need-low-requires

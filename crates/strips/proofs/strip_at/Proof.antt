@@ -1,10 +1,10 @@
 use native.Mathlib.Omega.{arith}
-use Rattle.background.proofs.Cases.{strip-cases}
+use Rattle.strips.proofs.Cases.{strip-cases}
 use borrow.Author.Needs.{needs}
-use Rattle.background.proofs.strip_at.Statement.{statement}
-use Rattle.background.proofs.strip_at.Tie as tie
-use Rattle.background.proofs.strip_at.Reads as reads
-use Rattle.background.proofs.strip_at.Lts as lts
+use Rattle.strips.proofs.strip_at.Statement.{statement}
+use Rattle.strips.proofs.strip_at.Tie as tie
+use Rattle.strips.proofs.strip_at.Reads as reads
+use Rattle.strips.proofs.strip_at.Lts as lts
 use Rattle.bits.proofs.low.Reads as low-reads
 use Rattle.address.proofs.page.Reads as page-reads
 

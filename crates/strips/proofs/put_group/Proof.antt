@@ -1,11 +1,11 @@
-use Rattle.background.proofs.Cases.{group-cases}
+use Rattle.strips.proofs.Cases.{group-cases}
 use borrow.Author.Needs.{needs}
-use Rattle.background.proofs.put_group.Statement.{statement}
-use Rattle.background.proofs.put_group.Tie as tie
-use Rattle.background.proofs.put_group.Reads as reads
-use Rattle.background.proofs.put_group.Lts as lts
-use Rattle.background.proofs.palette_at.Reads as palette-at-reads
-use Rattle.background.proofs.put_pair.Reads as put-pair-reads
+use Rattle.strips.proofs.put_group.Statement.{statement}
+use Rattle.strips.proofs.put_group.Tie as tie
+use Rattle.strips.proofs.put_group.Reads as reads
+use Rattle.strips.proofs.put_group.Lts as lts
+use Rattle.strips.proofs.palette_at.Reads as palette-at-reads
+use Rattle.strips.proofs.put_pair.Reads as put-pair-reads
 
 mul-column : tie.Need-mul-column
 mul-column c = search needs

@@ -1,9 +1,9 @@
-use Rattle.background.proofs.Cases.{column-cases}
+use Rattle.strips.proofs.Cases.{column-cases}
 use borrow.Author.Needs.{needs}
-use Rattle.background.proofs.put_column.Statement.{statement}
-use Rattle.background.proofs.put_column.Tie as tie
-use Rattle.background.proofs.put_column.Reads as reads
-use Rattle.background.proofs.put_column.Lts as lts
+use Rattle.strips.proofs.put_column.Statement.{statement}
+use Rattle.strips.proofs.put_column.Tie as tie
+use Rattle.strips.proofs.put_column.Reads as reads
+use Rattle.strips.proofs.put_column.Lts as lts
 use Rattle.bits.proofs.wide.Reads as wide-reads
 use Rattle.pixels.proofs.put_tile.Reads as put-tile-reads
 

@@ -6,7 +6,7 @@ use Rattle.model.specs.declared.Wiring.{Wiring}
 use Rattle.model.specs.Address.{pageAt, wiringNumber}
 use Rattle.model.specs.Scroll.{fineY, row}
 use Rattle.model.specs.Background.{colourOf, numberOf}
-use Rattle.background.specs.declared.Strip.{Strip}
+use Rattle.strips.specs.declared.Strip.{Strip}
 
 -- nine groups of four tiles of eight pixels: a line meets 33 tiles, the first of them any of its group's
 abbrev pub rowLength : ℕ

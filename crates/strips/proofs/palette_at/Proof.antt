@@ -1,10 +1,10 @@
 use native.Mathlib.Omega.{arith}
-use Rattle.background.proofs.Cases.{palette-cases}
+use Rattle.strips.proofs.Cases.{palette-cases}
 use borrow.Author.Needs.{needs}
-use Rattle.background.proofs.palette_at.Statement.{statement}
-use Rattle.background.proofs.palette_at.Tie as tie
-use Rattle.background.proofs.palette_at.Reads as reads
-use Rattle.background.proofs.palette_at.Lts as lts
+use Rattle.strips.proofs.palette_at.Statement.{statement}
+use Rattle.strips.proofs.palette_at.Tie as tie
+use Rattle.strips.proofs.palette_at.Reads as reads
+use Rattle.strips.proofs.palette_at.Lts as lts
 use Rattle.bits.proofs.field.Reads as field-reads
 use Rattle.bits.proofs.low.Reads as low-reads
 

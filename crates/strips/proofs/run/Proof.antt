@@ -2,14 +2,14 @@ use Prim.Native.Nat.{_-_, _*_, _≤_}
 use mathlib.Core.Path.{_≡_, refl}
 use lib.ListN.{length}
 use Rattle.pixels.specs.Row.{storeTab}
-use Rattle.background.specs.Strips.{rowLength, stripPixel}
-use Rattle.background.proofs.Cases.{run-cases}
+use Rattle.strips.specs.Strips.{rowLength, stripPixel}
+use Rattle.strips.proofs.Cases.{run-cases}
 use borrow.Author.Needs.{needs}
-use Rattle.background.proofs.run.Statement.{statement}
-use Rattle.background.proofs.run.Tie as tie
-use Rattle.background.proofs.run.Reads as reads
-use Rattle.background.proofs.run.Lts as lts
-use Rattle.background.proofs.put_group.Reads as put-group-reads
+use Rattle.strips.proofs.run.Statement.{statement}
+use Rattle.strips.proofs.run.Tie as tie
+use Rattle.strips.proofs.run.Reads as reads
+use Rattle.strips.proofs.run.Lts as lts
+use Rattle.strips.proofs.put_group.Reads as put-group-reads
 
 abbrev Inv-loop : tie.InvT-loop
 Inv-loop table nametables s group n row₀ at t₀ row t = (t ≤ n) × (length row ≡ rowLength) × (row ≡ storeTab (stripPixel table nametables s (4 * group)) (32 * at) (32 * t) row₀)

@@ -1,10 +1,10 @@
-use Rattle.background.proofs.Cases.{pair-cases}
+use Rattle.strips.proofs.Cases.{pair-cases}
 use borrow.Author.Needs.{needs}
-use Rattle.background.proofs.put_pair.Statement.{statement}
-use Rattle.background.proofs.put_pair.Tie as tie
-use Rattle.background.proofs.put_pair.Reads as reads
-use Rattle.background.proofs.put_pair.Lts as lts
-use Rattle.background.proofs.put_column.Reads as put-column-reads
+use Rattle.strips.proofs.put_pair.Statement.{statement}
+use Rattle.strips.proofs.put_pair.Tie as tie
+use Rattle.strips.proofs.put_pair.Reads as reads
+use Rattle.strips.proofs.put_pair.Lts as lts
+use Rattle.strips.proofs.put_column.Reads as put-column-reads
 
 put-column-requires : tie.Need-put-column-requires
 put-column-requires c κs = search needs
