@@ -245,7 +245,7 @@ test_time() {
     title "long.log: picture 60, paused before line 240"
     after=$(date +%s%N)
     local took=$(((after - before) / 1000000))
-    if [ "$took" -lt 950 ] || [ "$took" -gt 4000 ]; then fail "60 pictures in $took ms"; fi
+    if [ "$took" -lt 950 ] || [ "$took" -gt 9000 ]; then fail "60 pictures in $took ms"; fi
     keys space
     title "long.log: picture *, playing"
     keys space
