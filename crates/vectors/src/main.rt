@@ -53,11 +53,11 @@ fn got(u: Ppu, address: u16) -> Access {
 fn drew(u: Ppu, cell: usize, line: &mut [u8]) -> Ppu
     requires { ⌜ cell < 2048 ⌝ }
 {
+    let mut nametables = [0u8; 2048];
+    nametables[cell] = 1;
     let mut left = [0u8; 4096];
     left[16] = 255;
     let right = [0u8; 4096];
-    let mut nametables = [0u8; 2048];
-    nametables[cell] = 1;
     let oam = [0u8; 256];
     let a = ppu::line(u, &left, &right, &nametables, &oam, line);
     let n = a.unit;
