@@ -95,22 +95,11 @@ pub fn play(
 {
     let mut n = u;
     let mut at = 0;
-    let mut written = 0;
+    let mut to = 0; // where the next text goes
     while at < log.len() {
         let s = reader::read_at(log, at);
         let e = s.found;
-        let p = play_one(
-            e,
-            n,
-            out,
-            written,
-            left,
-            right,
-            nametables,
-            oam,
-            palette,
-            line,
-        );
+        let p = play_one(e, n, out, to, left, right, nametables, oam, palette, line);
         if p.ended {
             return p;
         }
@@ -118,11 +107,11 @@ pub fn play(
         let after = p.unit;
         n = after;
         at = moved.at;
-        written = p.written;
+        to = p.written;
     }
     Played {
         unit: n,
-        written,
+        written: to,
         ended: false,
     }
 }

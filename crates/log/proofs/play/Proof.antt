@@ -14,12 +14,12 @@ use Rattle.reader.proofs.read_at.Reads as read-at-reads
 use Rattle.log.proofs.play_one.Reads as play-one-reads
 
 abbrev Inv-loop : tie.InvT-loop
-Inv-loop log out₀ left₀ right₀ nametables₀ oam₀ palette₀ line₀ n₀ at₀ written₀ out left right nametables oam palette line n at written =
-    Playing log out₀ (state n₀ (playMemory left₀ right₀ nametables₀ oam₀ palette₀ line₀)) (state n (playMemory left right nametables oam palette line)) out at written
+Inv-loop log out₀ left₀ right₀ nametables₀ oam₀ palette₀ line₀ n₀ at₀ to₀ out left right nametables oam palette line n at to =
+    Playing log out₀ (state n₀ (playMemory left₀ right₀ nametables₀ oam₀ palette₀ line₀)) (state n (playMemory left right nametables oam palette line)) out at to
     × SameLengths (playMemory left₀ right₀ nametables₀ oam₀ palette₀ line₀) (playMemory left right nametables oam palette line)
 
 abbrev μ-loop : tie.MeasureT-loop
-μ-loop log out₀ left₀ right₀ nametables₀ oam₀ palette₀ line₀ n₀ at₀ written₀ out left right nametables oam palette line n at written =
+μ-loop log out₀ left₀ right₀ nametables₀ oam₀ palette₀ line₀ n₀ at₀ to₀ out left right nametables oam palette line n at to =
     length log - at
 
 loop-holds : tie.Need-loop-holds Inv-loop μ-loop
