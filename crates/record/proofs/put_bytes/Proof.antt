@@ -1,11 +1,10 @@
 use borrow.Author.Needs.{needs}
 use Prim.Native.Nat.{ℕ, _≤_, _-_}
-use mathlib.Core.Path.{_≡_, refl, sym, _∙_}
+use mathlib.Core.Path.{_≡_, refl}
 use mathlib.Core.List.{_++_}
-use native.Mathlib.Omega.{arith}
 use lib.ListN.{length, length-set, getD, drop}
 use Rattle.model.specs.Line.{tab}
-use Rattle.model.proofs.Tab.{tab-none, tab-more, tab-done}
+use Rattle.model.proofs.Tab.{tab-none, tab-more}
 use Rattle.record.proofs.Cases.{bytes-done}
 use Rattle.record.proofs.put_bytes.Statement.{statement}
 use Rattle.record.proofs.put_bytes.Tie as tie
