@@ -12,7 +12,7 @@ use borrow.Author.Tests.{eq-eqb, ne-eqb, lt-ltb, le-ltb}
 use Rattle.model.specs.declared.Access.{Access}
 use Rattle.model.specs.declared.Answer.{Answer}
 use Rattle.model.specs.declared.Entry.{Entry}
-use Rattle.model.specs.declared.Entry.the-variants.{Read, Write, Run, End, Refused}
+use Rattle.model.specs.declared.Entry.the-variants.{Read, Write, Run, Refused}
 use Rattle.model.specs.Record.{bitByte}
 use Rattle.model.specs.Log.{hexDigit, decimal, readText, runText, refusedText, entryDone, entryText}
 use Rattle.answers.specs.Printable.{Printable}
@@ -172,13 +172,9 @@ module _ (e : Entry) (x : Answer) (n : ℕ) (o l : List ℕ) (at : ℕ) where
   unfolding entryDone
   text-4 a b h k f = f ∙ rw (text-done e x n h, k)
 
-  pub text-5 : x .number ≡ 0 → e ≡ End → o ≡ l → o ≡ sets l at (entryText e x n)
+  pub text-5 : x .number ≡ 0 → e ≡ Refused → o ≡ l → o ≡ sets l at (entryText e x n)
   unfolding entryDone
   text-5 h k f = f ∙ rw (text-done e x n h, k)
-
-  pub text-6 : (a : ℕ) → x .number ≡ 0 → e ≡ Refused a → o ≡ l → o ≡ sets l at (entryText e x n)
-  unfolding entryDone
-  text-6 a h k f = f ∙ rw (text-done e x n h, k)
 
 module _ (e : Entry) (x : Answer) (n at r : ℕ) where
   pub behind-1 : (x .number ≡ 0 → ⊥) → r ≡ at + length (refusedText (x .number)) → r ≡ at + length (entryText e x n)
@@ -196,12 +192,8 @@ module _ (e : Entry) (x : Answer) (n at r : ℕ) where
   unfolding entryDone
   behind-4 a b h k f = f ∙ rw (text-done e x n h, k) (sym (add-zero at))
 
-  pub behind-5 : x .number ≡ 0 → e ≡ End → r ≡ at → r ≡ at + length (entryText e x n)
+  pub behind-5 : x .number ≡ 0 → e ≡ Refused → r ≡ at → r ≡ at + length (entryText e x n)
   unfolding entryDone
   behind-5 h k f = f ∙ rw (text-done e x n h, k) (sym (add-zero at))
 
-  pub behind-6 : (a : ℕ) → x .number ≡ 0 → e ≡ Refused a → r ≡ at → r ≡ at + length (entryText e x n)
-  unfolding entryDone
-  behind-6 a h k f = f ∙ rw (text-done e x n h, k) (sym (add-zero at))
-
-pub ruleset text-cases = (text-1, text-2, text-3, text-4, text-5, text-6, behind-1, behind-2, behind-3, behind-4, behind-5, behind-6)
+pub ruleset text-cases = (text-1, text-2, text-3, text-4, text-5, behind-1, behind-2, behind-3, behind-4, behind-5)

@@ -111,7 +111,6 @@ pub fn put_text(e: Entry, x: Access, out: &mut [u8], at: usize) -> usize
             put_run(u.scanline, a.nmi, out, at)
         }
         Entry::Write(_, _) => at,
-        Entry::End => at,
-        Entry::Refused(_) => at,
+        Entry::Refused => at,
     }
 }

@@ -1,4 +1,4 @@
--- The play of one entry, of a log, and of a block of one, for `search`.
+-- The play of a log, and of a block of one, for `search`.
 use Prim.Native.Nat.{ℕ, suc, _+_, _-_, _*_, _/_, _<_, _≤_, min}
 use mathlib.Core.Path.{_≡_, refl, sym, ap, _∙_}
 use mathlib.Core.Bool.{Bool, true, false, cond, _||_}
@@ -13,46 +13,15 @@ use lib.Seq.{sets, length-sets, sets-eq, length-take-le, take-at, drop-at, set-a
 use Rattle.model.specs.declared.Ppu.{Ppu}
 use Rattle.model.specs.declared.Access.{Access}
 use Rattle.model.specs.declared.Entry.{Entry}
-use Rattle.model.specs.declared.Entry.the-variants.{Read, Write, Run, End, Refused}
-use Rattle.model.specs.Unit.{Memory, accessMemory, lineMemory, State, state}
-use Rattle.model.specs.Calls.{own, readCall, writeCall, runCall, Outcome, outcomeOn, access, doneAnswer, refusedAccess, accessOutcome, lineOutcome, onLent}
+use Rattle.model.specs.declared.Entry.the-variants.{Read, Write, Run, Refused}
+use Rattle.model.specs.Unit.{Memory, State, state}
+use Rattle.model.specs.Calls.{Outcome, outcomeOn, playOutcome}
 use Rattle.model.specs.Log.{recordsOf, entryOf, playEntry, entryText, ends, playedText, playedState, playEnds}
 use Rattle.model.proofs.Scroll.{lt-or-ge}
-use Rattle.model.proofs.Calls.{restores, frame}
 use Rattle.model.proofs.Log.{run-line, text-short, text-first, state-first, ends-first}
 use Rattle.log.specs.declared.Played.{Played}
 use Rattle.answers.specs.Printable.{Printable}
-use Rattle.log.specs.Play.{playMemory, playOutcome, IsStep, IsPlay, wholeBytes}
-
--- ONE ENTRY: what its call is lent, carried over to all the memory
-module _ (e : Entry) (u : Ppu) (x : Access) (l r n o p b : List ℕ) where
-  pub plays-1 : (a : ℕ) → e ≡ Read a → accessOutcome x l r n o p ≡ onLent (readCall own a) (state u (accessMemory l r n o p))
-      → playOutcome x l r n o p b ≡ playEntry e (state u (playMemory l r n o p b))
-  unfolding playEntry
-  plays-1 a k h =
-      ap (restores (readCall own a) (playMemory l r n o p b)) h ∙ sym (frame (readCall own a) u (playMemory l r n o p b)) ∙ rw k
-
-  pub plays-2 : (a c : ℕ) (l′ r′ n′ o′ p′ : List ℕ) → e ≡ Write a c → accessOutcome x l′ r′ n′ o′ p′ ≡ onLent (writeCall own a c) (state u (accessMemory l r n o p))
-      → playOutcome x l′ r′ n′ o′ p′ b ≡ playEntry e (state u (playMemory l r n o p b))
-  unfolding playEntry
-  plays-2 a c l′ r′ n′ o′ p′ k h =
-      ap (restores (writeCall own a c) (playMemory l r n o p b)) h ∙ sym (frame (writeCall own a c) u (playMemory l r n o p b)) ∙ rw k
-
-  pub plays-3 : (a : ℕ) (b′ : List ℕ) → e ≡ Run a → lineOutcome x l r n o b′ ≡ onLent (runCall own 0 a) (state u (lineMemory l r n o b))
-      → playOutcome x l r n o p b′ ≡ playEntry e (state u (playMemory l r n o p b))
-  unfolding playEntry
-  plays-3 a b′ k h =
-      ap (restores (runCall own 0 a) (playMemory l r n o p b)) h ∙ sym (frame (runCall own 0 a) u (playMemory l r n o p b)) ∙ rw k
-
-  pub plays-4 : e ≡ End → x ≡ access (doneAnswer 0 0 u) u → playOutcome x l r n o p b ≡ playEntry e (state u (playMemory l r n o p b))
-  unfolding playEntry
-  plays-4 k h = rw (h, k)
-
-  pub plays-5 : (a : ℕ) → e ≡ Refused a → x ≡ refusedAccess a u → playOutcome x l r n o p b ≡ playEntry e (state u (playMemory l r n o p b))
-  unfolding playEntry
-  plays-5 a k h = rw (h, k)
-
-pub ruleset plays-cases = (plays-1, plays-2, plays-3, plays-4, plays-5)
+use Rattle.log.specs.Play.{IsStep, IsPlay, wholeBytes}
 
 -- its text can be printed
 pub printable : (e : Entry) (s : State) (x : Access) (l r n o p b : List ℕ) → playOutcome x l r n o p b ≡ playEntry e s → Printable e x
@@ -63,8 +32,7 @@ printable (Run k) s x l r n o p b h = λ z.
     let f : x .unit .scanline ≡ playEntry (Run k) s .after .unit .scanline = ap (λ (y : Outcome). y .after .unit .scanline) h in
     let g = run-line k s (ap (λ (y : Outcome). y .answer .number) (sym h) ∙ z) in
     omega arith
-printable End s x l r n o p b h = tt
-printable (Refused k) s x l r n o p b h = tt
+printable Refused s x l r n o p b h = tt
 
 pub step-done : (e : Entry) (s : State) (x : Access) (m : Memory) (out out′ : List ℕ) (at w : ℕ) (y : Played) → outcomeOn x m ≡ playEntry e s
     → out′ ≡ sets out at (entryText e (x .answer) (x .unit .scanline)) → w ≡ at + length (entryText e (x .answer) (x .unit .scanline))

@@ -1,24 +1,14 @@
--- What the play of a log is lent, and what it leaves.
+-- What the play of a log leaves.
 use mathlib.Core.Path.{_≡_}
 use mathlib.Core.List.{List, _++_}
 use mathlib.Core.Bool.{Bool, cond}
 use Prim.Native.Nat.{ℕ, _+_, _*_, _/_}
 use lib.ListN.{length, drop}
 use lib.Seq.{sets}
-use Rattle.model.specs.declared.Access.{Access}
 use Rattle.model.specs.declared.Entry.{Entry}
-use Rattle.model.specs.Unit.{Memory, withLine, accessMemory, State, state}
-use Rattle.model.specs.Calls.{Outcome, outcomeOn}
+use Rattle.model.specs.Unit.{Memory, State, state}
 use Rattle.model.specs.Log.{recordsOf, playEntry, entryText, ends, playedText, playedState, playEnds}
 use Rattle.log.specs.declared.Played.{Played}
-
--- pattern tables, nametable RAM, OAM, palette and line buffer
-abbrev pub playMemory : List ℕ → List ℕ → List ℕ → List ℕ → List ℕ → List ℕ → Memory
-playMemory l r n o p b = withLine (accessMemory l r n o p) b
-
--- what a record's call hands back, and the memories it was lent
-abbrev pub playOutcome : Access → List ℕ → List ℕ → List ℕ → List ℕ → List ℕ → List ℕ → Outcome
-playOutcome x l r n o p b = outcomeOn x (playMemory l r n o p b)
 
 -- an entry played from state s: the unit and the memory left, its text in the output from place `at` on, and whether a refusal 5 ended the play
 pub record IsStep (e : Entry) (s : State) (out : List ℕ) (at : ℕ) (x : Played) (m : Memory) (out′ : List ℕ) : Type 0 where

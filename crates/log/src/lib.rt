@@ -1,13 +1,11 @@
 // The play of a log of accesses on a unit and lent memory, with what the player prints of it. Inner functions, not public calls.
-// play_entry (one entry), play_one (and its text), play (a whole log), play_block (a block of a longer log), whole, keep.
+// play_one (one entry and its text), play_log (a whole log), play_block (a block of a longer log), whole, keep.
 ghost use mathlib.Core.Path.{_≡_};
 ghost use mathlib.Core.List.{_++_};
 ghost use Prim.Native.Nat.{_+_, _-_, _*_, _/_, _≤_};
 ghost use lib.ListN.{length, take, drop};
-ghost use Rattle.model.specs.Unit.{state};
-ghost use Rattle.model.specs.Log.{playEntry};
-ghost use Rattle.log.specs.Play.{playMemory, playOutcome, IsStep, IsPlay, wholeBytes};
-use model::Access;
+ghost use Rattle.model.specs.Unit.{state, playMemory};
+ghost use Rattle.log.specs.Play.{IsStep, IsPlay, wholeBytes};
 use model::Entry;
 use model::Ppu;
 
@@ -22,31 +20,6 @@ pub struct Played {
 pub struct Block {
     pub played: Played,
     pub kept: usize,
-}
-
-// An entry's call on a unit and all the memory that is lent.
-pub fn play_entry(
-    e: Entry,
-    u: Ppu,
-    left: &mut [u8],
-    right: &mut [u8],
-    nametables: &mut [u8],
-    oam: &mut [u8],
-    palette: &mut [u8],
-    line: &mut [u8],
-) -> Access
-    ensures { λ r. ⌜ playOutcome r (now (left .exit)) (now (right .exit)) (now (nametables .exit)) (now (oam .exit)) (now (palette .exit)) (now (line .exit)) ≡
-        playEntry e (state u (playMemory (now (left .entry)) (now (right .entry)) (now (nametables .entry)) (now (oam .entry)) (now (palette .entry)) (now (line .entry)))) ⌝ }
-{
-    match e {
-        Entry::Read(address) => accesses::read(u, address, left, right, nametables, oam, palette),
-        Entry::Write(address, byte) => {
-            accesses::write(u, address, byte, left, right, nametables, oam, palette)
-        }
-        Entry::Run(n) => runs::run_all(u, n, left, right, nametables, oam, line),
-        Entry::End => unit::done(0, 0, u),
-        Entry::Refused(n) => unit::refused(n, u),
-    }
 }
 
 // An entry's call, and its text stored in the output from place `at` on.
@@ -66,7 +39,7 @@ fn play_one(
     ensures { λ r. ⌜ IsStep e (state u (playMemory (now (left .entry)) (now (right .entry)) (now (nametables .entry)) (now (oam .entry)) (now (palette .entry)) (now (line .entry))))
         (now (out .entry)) at r (playMemory (now (left .exit)) (now (right .exit)) (now (nametables .exit)) (now (oam .exit)) (now (palette .exit)) (now (line .exit))) (now (out .exit)) ⌝ }
 {
-    let x = play_entry(e, u, left, right, nametables, oam, palette, line);
+    let x = calls_play::play_entry(e, u, left, right, nametables, oam, palette, line);
     let written = answers::put_text(e, x, out, at);
     let answer = x.answer;
     let unit = x.unit;
@@ -78,7 +51,7 @@ fn play_one(
 }
 
 // A log played into the output, which must have room for the longest line, 15 bytes, of each record.
-pub fn play(
+pub fn play_log(
     u: Ppu,
     log: &[u8],
     out: &mut [u8],
@@ -162,7 +135,7 @@ pub fn play_block(
         × (now (block .exit) ≡ take (n - wholeBytes last n) (drop (wholeBytes last n) (now (block .entry))) ++ drop (n - wholeBytes last n) (now (block .entry))) ⌝ }
 {
     let used = whole(n, last);
-    let played = play(
+    let played = play_log(
         u,
         &block[..used],
         out,

@@ -1,68 +1,71 @@
--- Demand 3's conditions can be met: two logs that run lines and leave different units, which the reload makes equal.
-use mathlib.Core.Path.{_≡_, refl, ap}
-use mathlib.Core.Bool.{Bool, true, _&&_}
+-- The example of specs/Example.antt, proved.
+use mathlib.Core.Path.{_≡_, refl, sym, ap, _∙_}
+use mathlib.Core.Bool.{Bool, true, false, true≢false, not, _&&_}
 use mathlib.Core.List.{List, [], _∷_}
-use Prim.Native.Nat.{ℕ, zero, suc, _<_}
-use lib.Dec.{T, ltb, ltb→lt, lit≤, lit<}
+use Prim.Native.Nat.{ℕ, _+_, _≤_, _<_}
+use native.Mathlib.Omega.{arith}
+use lib.Dec.{lit<, leb, ltb, eqb}
 use lib.ListN.{getD}
-use borrow.Author.Tests.{eqb-false}
-use Rattle.model.specs.Unit.{State, state, isWellFormed, isDrawing, isRendering, nmiLevel}
+use borrow.Author.Tests.{eqb-false, eq-eqb, leb-true, ltb-true}
+use Rattle.model.specs.Unit.{State, state, zeroUnit, lastLine, isWellFormed, isDrawing, isRendering, nmiLevel}
 use Rattle.model.specs.Record.{recordOf}
-use Rattle.model.specs.Ports.{wrotePort, wroteControl, wroteMemory, wroteOamBytes, wroteVideo}
-use Rattle.model.specs.Line.{oneLine, blankUnit, idleLine, vblankLine, linesRun, untilVblank, nmiCount, lineCount}
-use Rattle.model.specs.Calls.{own, Call, writeCall, lineCall, runCall, onLent, call, refusalOf, order, done, writeDone, lineDone, runDone}
-use Rattle.model.specs.Reload.{end, endOf, totalOf, dataCall, Pair, Alike, reload}
-use Rattle.model.specs.RecordLog.{recordRig, RecordPair, RecordAlike}
-use Rattle.model.proofs.Tests.{and-l, and-r}
-use Rattle.model.proofs.Needed.{zeros, board0, unit0, places, bytes, lengths, quiet}
+use Rattle.model.specs.Address.{placeOf, byteAt, cellOf, pageAt, paletteCell}
+use Rattle.model.specs.Ports.{stepped, wroteControl, wroteMask, wroteOamaddr, wroteScroll, wroteAddress, wrotePort, wroteMemory, wroteOamBytes, wroteVideo, readByte, readStatus, readData, readUnit, statusByte, dataByte, bufferByte}
+use Rattle.model.specs.Line.{oneLine, blankUnit, idleLine, vblankLine, preRenderLine, linesRun, untilVblank, nmiCount, lineCount}
+use Rattle.model.specs.Calls.{Call, onLent, call, refusalOf, order, done, readDone, writeDone, lineDone, runDone}
+use Rattle.model.specs.Reload.{end, endOf, totalOf, trace, dataCall, seven, joined, reload, bytesOnly, Quiet, Pair, Held}
+use Rattle.model.specs.Example.{filled, short, start, one, two, further, Example}
+use Rattle.model.proofs.Tests.{and-both}
+use Rattle.model.proofs.Needed.{places, bytes, lengths, held, quiet}
 use Rattle.model.proofs.Reloaded.{demand3}
-use Rattle.model.proofs.Records.{kept, pair-kept, record-demand3}
+use Rattle.model.proofs.Records.{pair-kept}
+use Rattle.model.proofs.Theorems.{below}
 
--- warmed up, next line 240, all else zero
-start : State
-start = state (unit0 0 0) zeros
+-- a log is quiet, as a test that computes: each call begins at line 240 or later, ends before the last, and is no data call that is done
+abbrev quietly : List Call → State → Bool
+quietly [] s = leb 240 (s .unit .scanline) && ltb (s .unit .scanline) (lastLine (s .unit .board))
+quietly (c ∷ cs) s =
+    leb 240 (s .unit .scanline)
+    && (ltb (s .unit .scanline + call c s .answer .lines) (lastLine (s .unit .board)) && (not (dataCall c && eqb (call c s .answer .number) 0) && quietly cs (call c s .after)))
 
--- a line; NMI on; a run of at most 9 lines, which stops after line 241
-one : List Call
-one = lineCall own ∷ writeCall own 8192 128 ∷ runCall own 1 9 ∷ []
+not-done : (d : Bool) (n : ℕ) → not (d && eqb n 0) ≡ true → d ≡ true → n ≡ 0 → ⊥
+not-done true n h e z = true≢false (sym h ∙ ap (λ (b : Bool). not b) (eq-eqb n 0 z))
+not-done false n h e z = true≢false (sym e)
 
--- a run of 2 lines
-two : List Call
-two = runCall own 1 2 ∷ []
+quiet-log : (cs : List Call) (s : State) → quietly cs s ≡ true → Quiet dataCall cs s
+quiet-log [] s h = let p = and-both _ _ h in (leb-true 240 (s .unit .scanline) (p .0), ltb-true (s .unit .scanline) (lastLine (s .unit .board)) (p .1))
+quiet-log (c ∷ cs) s h =
+    let p = and-both _ _ h in
+    let q = and-both _ _ (p .1) in
+    let r = and-both _ _ (q .1) in
+    let low : 240 ≤ s .unit .scanline = leb-true 240 (s .unit .scanline) (p .0) in
+    let high : s .unit .scanline + call c s .answer .lines < lastLine (s .unit .board) = ltb-true _ _ (q .0) in
+    ((low, omega (arith, high)), quiet c s low high (not-done (dataCall c) (call c s .answer .number) (r .0)), quiet-log cs (call c s .after) (r .1))
 
 pair : Pair dataCall start one two
-unfolding start one two totalOf endOf call onLent refusalOf order done writeDone lineDone runDone wrotePort wroteControl wroteMemory wroteVideo wroteOamBytes isWellFormed isDrawing isRendering nmiLevel zeros unit0 board0 oneLine blankUnit idleLine vblankLine linesRun lineCount nmiCount untilVblank
-pair =
+unfolding start one two totalOf endOf call onLent refusalOf order done readDone writeDone lineDone runDone wrotePort wroteControl wroteMask wroteMemory wroteVideo wroteOamBytes readUnit readByte readStatus readData stepped statusByte dataByte bufferByte placeOf byteAt cellOf pageAt paletteCell isWellFormed isDrawing isRendering nmiLevel filled short oneLine blankUnit idleLine vblankLine linesRun lineCount nmiCount untilVblank
+pair = record { warm = refl; lengths = lengths 255 _; quiet-a = quiet-log one start refl; quiet-b = quiet-log two start refl; lines-run = refl }
+
+short-held : Held (state zeroUnit short)
+unfolding short bytesOnly isWellFormed recordOf
+short-held = record { formed = refl; unit = refl; left = refl; right = refl; nametables = refl; oam = refl; palette = refl; line = refl }
+
+example : Example places bytes
+unfolding start one two further places bytes reload seven joined trace totalOf endOf call onLent refusalOf order done readDone writeDone lineDone runDone wrotePort wroteControl wroteMask wroteOamaddr wroteScroll wroteAddress wroteMemory wroteVideo wroteOamBytes readUnit readByte readStatus readData stepped statusByte dataByte bufferByte placeOf byteAt cellOf pageAt paletteCell isWellFormed isDrawing isRendering nmiLevel filled short oneLine blankUnit idleLine vblankLine preRenderLine linesRun lineCount nmiCount untilVblank recordOf bytesOnly
+example =
     record {
-      warm = refl;
-      lengths = lengths board0 refl;
-      quiet-a = ((lit≤ tt, lit< tt), quiet _ _ (lit≤ tt) (lit< tt) refl, ((lit≤ tt, lit< tt), quiet _ _ (lit≤ tt) (lit< tt) refl, ((lit≤ tt, lit< tt), quiet _ _ (lit≤ tt) (lit< tt) refl, (lit≤ tt, lit< tt))));
-      quiet-b = ((lit≤ tt, lit< tt), quiet _ _ (lit≤ tt) (lit< tt) refl, (lit≤ tt, lit< tt));
-      lines-run = refl;
+      pair = pair;
+      held = held 255 refl _ refl refl;
+      fit = (
+        ((tt, lit< tt), ((tt, lit< tt, lit< tt), (tt, ((tt, lit< tt, lit< tt), ((tt, lit< tt), ((tt, lit< tt, lit< tt), ((short-held, lit< tt, lit< tt), ((tt, refl), ((held 1 refl zeroUnit refl refl, lit< tt), ((tt, lit< tt, lit< tt), tt)))))))))),
+        ((tt, lit< tt, lit< tt), tt),
+        ((tt, lit< tt, lit< tt), ((tt, lit< tt, lit< tt), ((tt, lit< tt), tt))),
+      );
+      numbers = refl;
+      lines = refl;
+      next-line = refl;
+      differ = λ e. eqb-false 255 127 refl (ap (λ (r : List ℕ). getD r 0 0) e);
+      equal = demand3 start one two pair places places bytes;
+      drawing = refl;
+      record-pair = pair-kept start one two refl (below (recordOf (start .unit)) refl) pair;
     }
-
--- the logs leave different records
-differ : recordOf (end one start .unit) ≡ recordOf (end two start .unit) → ⊥
-unfolding start one two endOf call onLent refusalOf order done writeDone lineDone runDone wrotePort wroteControl wroteMemory wroteVideo wroteOamBytes isWellFormed isDrawing isRendering nmiLevel zeros unit0 board0 oneLine blankUnit idleLine vblankLine linesRun lineCount nmiCount untilVblank recordOf
-differ e = eqb-false 128 0 refl (ap (λ (r : List ℕ). getD r 0 0) e)
-
--- and the reload makes them equal
-example : Alike (end (reload places bytes) (end one start)) (end (reload places bytes) (end two start))
-example = demand3 start one two pair places places bytes
-
--- the same on the 16-byte record
-abbrev allBytes : List ℕ → Bool
-allBytes [] = true
-allBytes (x ∷ l) = ltb x 256 && allBytes l
-
-all-small : (l : List ℕ) → T (allBytes l) → (k : ℕ) → getD l k 0 < 256
-all-small [] t k = lit< tt
-all-small (x ∷ l) t zero = ltb→lt x 256 (and-l (ltb x 256) (allBytes l) t)
-all-small (x ∷ l) t (suc k) = all-small l (and-r (ltb x 256) (allBytes l) t) k
-
-record-pair : RecordPair (kept start) one two
-unfolding start unit0 board0 isWellFormed recordOf
-record-pair = pair-kept start one two refl (all-small (recordOf (unit0 0 0)) tt) pair
-
-record-example : RecordAlike (endOf recordRig (reload places bytes) (endOf recordRig one (kept start))) (endOf recordRig (reload places bytes) (endOf recordRig two (kept start)))
-record-example = record-demand3 (kept start) one two record-pair places places bytes

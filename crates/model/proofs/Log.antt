@@ -8,16 +8,16 @@ use lib.Dec.{eqb, ltb}
 use lib.ListN.{length, drop, length-append}
 use Rattle.model.specs.declared.Answer.{Answer}
 use Rattle.model.specs.declared.Entry.{Entry}
-use Rattle.model.specs.declared.Entry.the-variants.{Read, Write, Run, End, Refused}
-use Rattle.model.specs.Unit.{State}
-use Rattle.model.specs.Calls.{own, readCall, writeCall, runCall, Outcome, outcome, refusal, onLent}
-use Rattle.model.specs.Log.{Record, whole, cut, recordsOf, recordKnown, recordCall, playOne, recordEntry, entryOf, playEntry, decimal, readText, runText, refusedText, doneText, kindOf, textOf, entryDone, entryText, ends, playedText, playedState, playEnds}
+use Rattle.model.specs.declared.Entry.the-variants.{Read, Write, Run, Refused}
+use Rattle.model.specs.Unit.{Memory, State}
+use Rattle.model.specs.Calls.{own, readCall, writeCall, runCall, Outcome, outcome, refusal, onLent, packed, Exported, exported, exportedCall}
+use Rattle.model.specs.Log.{Record, whole, cut, recordsOf, recordKnown, recordCall, playOne, frontOf, playCall, exportedOne, exportedPlay, recordEntry, entryOf, playEntry, exportedEntry, decimal, readText, runText, refusedText, doneText, kindOf, textOf, entryDone, entryText, ends, playedText, playedState, playEnds}
 use Rattle.model.proofs.Tests.{cond-both}
 use Rattle.model.proofs.Good.{by-gate, good-of, done-sound}
 
 -- AN ENTRY comes to what its record comes to
 known-plays : (x y z : Bool) (a b : ℕ) (s : State)
-    → playEntry (cond x (cond y (Read a) (cond z (Write a b) (Run a))) (Refused 5)) s
+    → playEntry (cond x (cond y (Read a) (cond z (Write a b) (Run a))) Refused) s
     ≡ cond x (onLent (cond y (readCall own a) (cond z (writeCall own a b) (runCall own 0 a))) s) (outcome (refusal 5) s)
 unfolding playEntry
 known-plays true true z a b s = refl
@@ -30,10 +30,33 @@ unfolding recordEntry playOne recordCall playEntry
 entry-plays (whole k h l b) s = known-plays (recordKnown k b) (eqb k 0) (eqb k 1) (h * 256 + l) b s
 entry-plays cut s = refl
 
+pub play-entry : (log : List ℕ) (s : State) → playEntry (entryOf (recordsOf log)) s ≡ playCall log s
+unfolding playCall entryOf
+play-entry log s = entry-plays (frontOf (recordsOf log)) s
+
+-- also on a saved unit's record
+known-exported : (x y z : Bool) (a b : ℕ) (u : List ℕ) (m : Memory)
+    → exportedEntry (cond x (cond y (Read a) (cond z (Write a b) (Run a))) Refused) u m
+    ≡ cond x (exportedCall (cond y (readCall own a) (cond z (writeCall own a b) (runCall own 0 a))) u m) (exported (packed (refusal 5)) u m)
+unfolding exportedEntry
+known-exported true true z a b u m = refl
+known-exported true false true a b u m = refl
+known-exported true false false a b u m = refl
+known-exported false y z a b u m = refl
+
+entry-exported : (r : Record) (u : List ℕ) (m : Memory) → exportedEntry (recordEntry r) u m ≡ exportedOne r u m
+unfolding recordEntry exportedOne recordCall exportedEntry
+entry-exported (whole k h l b) u m = known-exported (recordKnown k b) (eqb k 0) (eqb k 1) (h * 256 + l) b u m
+entry-exported cut u m = refl
+
+pub play-exported : (log u : List ℕ) (m : Memory) → exportedEntry (entryOf (recordsOf log)) u m ≡ exportedPlay log u m
+unfolding exportedPlay entryOf
+play-exported log u m = entry-exported (frontOf (recordsOf log)) u m
+
 -- and prints what its record prints
 known-prints : (x y z : Bool) (a b : ℕ) (o : Outcome) (s : State)
     → let p : Outcome = cond x o (outcome (refusal 5) s) in
-    entryText (cond x (cond y (Read a) (cond z (Write a b) (Run a))) (Refused 5)) (p .answer) (p .after .unit .scanline)
+    entryText (cond x (cond y (Read a) (cond z (Write a b) (Run a))) Refused) (p .answer) (p .after .unit .scanline)
     ≡ cond (eqb (p .answer .number) 0) (cond y (readText (p .answer .byte)) (cond z [] (runText (p .after .unit .scanline) (p .answer .nmi))))
     (refusedText (p .answer .number))
 unfolding entryText entryDone
@@ -69,8 +92,7 @@ unfolding entryDone readText runText
 done-short (Read a) x n = omega arith
 done-short (Write a b) x n = omega arith
 done-short (Run k) x n = simp length-append (omega (arith, decimal-short n))
-done-short End x n = omega arith
-done-short (Refused k) x n = omega arith
+done-short Refused x n = omega arith
 
 refused-short : (n : ℕ) → length (refusedText n) ≤ 15
 unfolding refusedText
@@ -104,19 +126,19 @@ module _ (l : List ℕ) (s : State) (h : 0 < length l) where
   first = playEntry (entryOf (recordsOf l)) s
 
   pub text-first : playedText (recordsOf l) s ≡ entryText (entryOf (recordsOf l)) (first .answer) (first .after .unit .scanline) ++ cond (ends first) [] (playedText (recordsOf (drop 4 l)) (first .after))
-  unfolding playedText entryOf
+  unfolding playedText entryOf frontOf
   text-first =
       let (r, e) = records-front l h in
       rw (e, entry-plays r s, entry-prints r s)
 
   pub state-first : playedState (recordsOf l) s ≡ cond (ends first) (first .after) (playedState (recordsOf (drop 4 l)) (first .after))
-  unfolding playedState entryOf
+  unfolding playedState entryOf frontOf
   state-first =
       let (r, e) = records-front l h in
       rw (e, entry-plays r s)
 
   pub ends-first : playEnds (recordsOf l) s ≡ ends first || playEnds (recordsOf (drop 4 l)) (first .after)
-  unfolding playEnds entryOf
+  unfolding playEnds entryOf frontOf
   ends-first =
       let (r, e) = records-front l h in
       rw (e, entry-plays r s)

@@ -14,7 +14,7 @@ use Rattle.model.specs.Record.{at, unitOf, recordOf}
 use Rattle.model.specs.Line.{linesRun}
 use Rattle.model.specs.Calls.{access, loadCall, Call, Outcome, outcome, outcomeOn, refusal, refusedAccess, longFor, order, refusalOf, done, onLent, lentOf, lentMemory, ownMemory, call, packed, savedBytes, Exported, exported, exportOf, onRecord, exportedCall}
 use Rattle.model.specs.Reload.{end, endOf, total, totalOf, Within, dataCall, QuietLog, Quiet, Places, Bytes, reload, Pair}
-use Rattle.model.specs.RecordLog.{RecordState, recordState, recordCall, recordTrace, recordRig, RecordPair, RecordAlike}
+use Rattle.model.specs.RecordLog.{RecordState, recordState, recordCall, recordTrace, recordSystem, RecordPair, RecordAlike}
 use Rattle.model.proofs.Record.{unit-record-unit, record-unit-record, record-long, load-save, loaded, unit-well}
 use Rattle.model.proofs.Tests.{cond-both}
 use Rattle.model.proofs.Kept.{done-num}
@@ -61,20 +61,20 @@ unfolding recordCall call
 next-kept c s h =
     ap (λ (e : Exported). recordState (e .bytes) (ownMemory (lentOf c) (s .memory) (e .memory))) (exported-call c (s .unit) (lentMemory (lentOf c) (s .memory)) h)
 
-reply-kept : (c : Call) (s : State) → isWellFormed (s .unit) ≡ true → recordRig .reply c (kept s) ≡ call c s .answer
+reply-kept : (c : Call) (s : State) → isWellFormed (s .unit) ≡ true → recordSystem .reply c (kept s) ≡ call c s .answer
 unfolding call
 reply-kept c s h = ap (λ (o : Outcome). o .answer) (on-record c (s .unit) (lentMemory (lentOf c) (s .memory)) h)
 
-end-kept : (cs : List Call) (s : State) → isWellFormed (s .unit) ≡ true → endOf recordRig cs (kept s) ≡ kept (end cs s)
+end-kept : (cs : List Call) (s : State) → isWellFormed (s .unit) ≡ true → endOf recordSystem cs (kept s) ≡ kept (end cs s)
 unfolding endOf
 end-kept [] s h = refl
-end-kept (c ∷ cs) s h = ap (endOf recordRig cs) (next-kept c s h) ∙ end-kept cs (call c s .after) (call-good c s h)
+end-kept (c ∷ cs) s h = ap (endOf recordSystem cs) (next-kept c s h) ∙ end-kept cs (call c s .after) (call-good c s h)
 
-total-kept : (cs : List Call) (s : State) → isWellFormed (s .unit) ≡ true → totalOf recordRig cs (kept s) ≡ total cs s
+total-kept : (cs : List Call) (s : State) → isWellFormed (s .unit) ≡ true → totalOf recordSystem cs (kept s) ≡ total cs s
 unfolding totalOf
 total-kept [] s h = refl
 total-kept (c ∷ cs) s h =
-    (λ i. reply-kept c s h i .lines + totalOf recordRig cs (next-kept c s h i))
+    (λ i. reply-kept c s h i .lines + totalOf recordSystem cs (next-kept c s h i))
     ∙ ap (λ (n : ℕ). call c s .answer .lines + n) (total-kept cs (call c s .after) (call-good c s h))
 
 end-good : (cs : List Call) (s : State) → isWellFormed (s .unit) ≡ true → isWellFormed (end cs s .unit) ≡ true
@@ -82,13 +82,17 @@ unfolding endOf
 end-good [] s h = h
 end-good (c ∷ cs) s h = end-good cs (call c s .after) (call-good c s h)
 
-within-kept : (s : State) → Within (recordRig .rests (kept s)) → Within s
+-- the state after two logs
+pub ends-kept : (cs ds : List Call) (s : State) → isWellFormed (s .unit) ≡ true → endOf recordSystem ds (endOf recordSystem cs (kept s)) ≡ kept (end ds (end cs s))
+ends-kept cs ds s h = ap (endOf recordSystem ds) (end-kept cs s h) ∙ end-kept ds (end cs s) (end-good cs s h)
+
+within-kept : (s : State) → Within (recordSystem .rests (kept s)) → Within s
 within-kept s = subst (λ (u : Ppu). Within (state u (s .memory))) (unit-record-unit (s .unit))
 
-within-back : (s : State) → Within s → Within (recordRig .rests (kept s))
+within-back : (s : State) → Within s → Within (recordSystem .rests (kept s))
 within-back s = subst (λ (u : Ppu). Within (state u (s .memory))) (sym (unit-record-unit (s .unit)))
 
-quiet-kept : (shut : Call → Bool) (cs : List Call) (s : State) → isWellFormed (s .unit) ≡ true → QuietLog recordRig shut cs (kept s) → Quiet shut cs s
+quiet-kept : (shut : Call → Bool) (cs : List Call) (s : State) → isWellFormed (s .unit) ≡ true → QuietLog recordSystem shut cs (kept s) → Quiet shut cs s
 quiet-kept shut [] s h q = within-kept s q
 quiet-kept shut (c ∷ cs) s h q = (
   within-kept s (q .0),
@@ -98,11 +102,11 @@ quiet-kept shut (c ∷ cs) s h q = (
         (q .1 .throughout j (subst (λ (a : Answer). j ≤ a .lines) (sym (reply-kept c s h)) l));
     nodata = λ d e. q .1 .nodata d (ap (λ (a : Answer). a .number) (reply-kept c s h) ∙ e);
   },
-  quiet-kept shut cs (call c s .after) (call-good c s h) (subst (QuietLog recordRig shut cs) (next-kept c s h) (q .2)),
+  quiet-kept shut cs (call c s .after) (call-good c s h) (subst (QuietLog recordSystem shut cs) (next-kept c s h) (q .2)),
 )
 
 -- and back
-quiet-back : (shut : Call → Bool) (cs : List Call) (s : State) → isWellFormed (s .unit) ≡ true → Quiet shut cs s → QuietLog recordRig shut cs (kept s)
+quiet-back : (shut : Call → Bool) (cs : List Call) (s : State) → isWellFormed (s .unit) ≡ true → Quiet shut cs s → QuietLog recordSystem shut cs (kept s)
 quiet-back shut [] s h q = within-back s q
 quiet-back shut (c ∷ cs) s h q = (
   within-back s (q .0),
@@ -112,7 +116,7 @@ quiet-back shut (c ∷ cs) s h q = (
         (q .1 .throughout j (subst (λ (a : Answer). j ≤ a .lines) (reply-kept c s h) l));
     nodata = λ d e. q .1 .nodata d (sym (ap (λ (a : Answer). a .number) (reply-kept c s h)) ∙ e);
   },
-  subst (QuietLog recordRig shut cs) (sym (next-kept c s h)) (quiet-back shut cs (call c s .after) (call-good c s h) (q .2)),
+  subst (QuietLog recordSystem shut cs) (sym (next-kept c s h)) (quiet-back shut cs (call c s .after) (call-good c s h) (q .2)),
 )
 
 -- two logs of demand 3 on a unit are two on its record
@@ -130,7 +134,7 @@ pair-kept s la lb h small p =
     }
 
 -- A RECORD THAT IS REFUSED stays, and so does the memory
-refused-bytes : (x : Access) (l : List ℕ) → (x .answer .number ≡ 0 → ⊥) → savedBytes x l ≡ l
+pub refused-bytes : (x : Access) (l : List ℕ) → (x .answer .number ≡ 0 → ⊥) → savedBytes x l ≡ l
 unfolding savedBytes
 refused-bytes x l h = rw (ne-eqb (x .answer .number) 0 h) (cond-both (λ (k : List ℕ). k ≡ l) (long l recordLength) l l refl refl)
 
@@ -147,13 +151,13 @@ bad-record c l m h =
     (record { bytes = refused-bytes x l h; memory = refl })
     (record { bytes = refused-bytes (refusedAccess 2 (x .unit)) l (λ (z : 2 ≡ 0). omega (arith, z)); memory = refl }))
 
-bad-end : (cs : List Call) (s : RecordState) → (loadCall (s .bytes) .answer .number ≡ 0 → ⊥) → endOf recordRig cs s ≡ s
+bad-end : (cs : List Call) (s : RecordState) → (loadCall (s .bytes) .answer .number ≡ 0 → ⊥) → endOf recordSystem cs s ≡ s
 unfolding endOf recordCall exportedCall
 bad-end [] s h = refl
 bad-end (c ∷ cs) s h =
     let b = bad-record c (s .bytes) (lentMemory (lentOf c) (s .memory)) h in
-    (λ i. endOf recordRig cs (recordState (b .bytes i) (ownMemory (lentOf c) (s .memory) (b .memory i))))
-    ∙ (λ i. endOf recordRig cs (recordState (s .bytes) (own-same (lentOf c) (s .memory) i)))
+    (λ i. endOf recordSystem cs (recordState (b .bytes i) (ownMemory (lentOf c) (s .memory) (b .memory i))))
+    ∙ (λ i. endOf recordSystem cs (recordState (s .bytes) (own-same (lentOf c) (s .memory) i)))
     ∙ bad-end cs s h
 
 alike : {s t : RecordState} → s ≡ t → RecordAlike s t
@@ -161,10 +165,10 @@ alike e = record { records = ap (λ (z : RecordState). z .bytes) e; memories = a
 
 -- DEMAND 3, for the exported calls
 pub record-demand3 : (s : RecordState) (la lb : List Call) → RecordPair s la lb → (pa pb : Places) (b : Bytes)
-    → RecordAlike (endOf recordRig (reload pa b) (endOf recordRig la s)) (endOf recordRig (reload pb b) (endOf recordRig lb s))
+    → RecordAlike (endOf recordSystem (reload pa b) (endOf recordSystem la s)) (endOf recordSystem (reload pb b) (endOf recordSystem lb s))
 record-demand3 s la lb p pa pb b = alike (go (eqb (loadCall (s .bytes) .answer .number) 0) refl)
   where
-    go : (x : Bool) → eqb (loadCall (s .bytes) .answer .number) 0 ≡ x → endOf recordRig (reload pa b) (endOf recordRig la s) ≡ endOf recordRig (reload pb b) (endOf recordRig lb s)
+    go : (x : Bool) → eqb (loadCall (s .bytes) .answer .number) 0 ≡ x → endOf recordSystem (reload pa b) (endOf recordSystem la s) ≡ endOf recordSystem (reload pb b) (endOf recordSystem lb s)
     go true e =
         let f = loaded (s .bytes) (eqb-true (loadCall (s .bytes) .answer .number) 0 e) in
         let z : State = state (unitOf (s .bytes)) (s .memory) in
@@ -174,21 +178,19 @@ record-demand3 s la lb p pa pb b = alike (go (eqb (loadCall (s .bytes) .answer .
         record {
           warm = p .pair .warm;
           lengths = p .pair .lengths;
-          quiet-a = quiet-kept dataCall la z h (subst (QuietLog recordRig dataCall la) (sym k) (p .pair .quiet-a));
-          quiet-b = quiet-kept dataCall lb z h (subst (QuietLog recordRig dataCall lb) (sym k) (p .pair .quiet-b));
-          lines-run = sym (total-kept la z h) ∙ ap (totalOf recordRig la) k ∙ p .pair .lines-run ∙ sym (ap (totalOf recordRig lb) k) ∙ total-kept lb z h;
+          quiet-a = quiet-kept dataCall la z h (subst (QuietLog recordSystem dataCall la) (sym k) (p .pair .quiet-a));
+          quiet-b = quiet-kept dataCall lb z h (subst (QuietLog recordSystem dataCall lb) (sym k) (p .pair .quiet-b));
+          lines-run = sym (total-kept la z h) ∙ ap (totalOf recordSystem la) k ∙ p .pair .lines-run ∙ sym (ap (totalOf recordSystem lb) k) ∙ total-kept lb z h;
         }
         in
         let d = demand3 z la lb q pa pb b in
-        let side : (cs : List Call) (a : Places) → endOf recordRig (reload a b) (endOf recordRig cs s) ≡ kept (end (reload a b) (end cs z)) =
-        λ cs a.
-        ap (λ (x : RecordState). endOf recordRig (reload a b) (endOf recordRig cs x)) (sym k) ∙ ap (endOf recordRig (reload a b)) (end-kept cs z h)
-        ∙ end-kept (reload a b) (end cs z) (end-good cs z h)
+        let side : (cs : List Call) (a : Places) → endOf recordSystem (reload a b) (endOf recordSystem cs s) ≡ kept (end (reload a b) (end cs z)) =
+        λ cs a. ap (λ (x : RecordState). endOf recordSystem (reload a b) (endOf recordSystem cs x)) (sym k) ∙ ends-kept cs (reload a b) z h
         in
         side la pa ∙ (λ i. recordState (recordOf (d .units i)) (d .memories i)) ∙ sym (side lb pb)
     go false e =
         let h = eqb-false (loadCall (s .bytes) .answer .number) 0 e in
-        let stay : (cs : List Call) (q : Places) → endOf recordRig (reload q b) (endOf recordRig cs s) ≡ s =
-        λ cs q. ap (endOf recordRig (reload q b)) (bad-end cs s h) ∙ bad-end (reload q b) s h
+        let stay : (cs : List Call) (q : Places) → endOf recordSystem (reload q b) (endOf recordSystem cs s) ≡ s =
+        λ cs q. ap (endOf recordSystem (reload q b)) (bad-end cs s h) ∙ bad-end (reload q b) s h
         in
         stay la pa ∙ sym (stay lb pb)

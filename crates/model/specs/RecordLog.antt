@@ -4,8 +4,8 @@ use mathlib.Core.List.{List, [], _∷_}
 use Prim.Native.Nat.{ℕ, _<_}
 use Rattle.model.specs.Unit.{Memory, state}
 use Rattle.model.specs.Record.{at, unitOf}
-use Rattle.model.specs.Calls.{Call, lentOf, lentMemory, ownMemory, onRecord, Exported, exportedCall}
-use Rattle.model.specs.Reload.{Rig, dataCall, PairOf}
+use Rattle.model.specs.Calls.{loadCall, Call, lentOf, lentMemory, ownMemory, onRecord, Exported, exportedCall}
+use Rattle.model.specs.Reload.{System, endOf, dataCall, Places, Bytes, seven, joined, without, PairOf, Held, AllFit}
 
 -- a saved unit's record and the unit's own memory
 pub record RecordState : Type 0 where
@@ -21,6 +21,9 @@ pub record RecordGiven : Type 0 where
   pub after : RecordState
   pub lent : Memory
 
+abbrev pub recordGiven : ℕ → RecordState → Memory → RecordGiven
+recordGiven r s m = record { result = r; after = s; lent = m }
+
 unfoldable pub recordCall : Call → RecordState → RecordGiven
 recordCall c s =
     let e : Exported = exportedCall c (s .bytes) (lentMemory (lentOf c) (s .memory)) in
@@ -31,8 +34,8 @@ recordTrace [] s = []
 recordTrace (c ∷ cs) s = recordCall c s ∷ recordTrace cs (recordCall c s .after)
 
 -- what answers exported calls: the answer is the one that the call packs, the unit the record's, well formed or not
-abbrev pub recordRig : Rig RecordState
-recordRig =
+abbrev pub recordSystem : System RecordState
+recordSystem =
     record {
       next = λ c s. recordCall c s .after;
       reply = λ c s. onRecord c (s .bytes) (lentMemory (lentOf c) (s .memory)) .answer;
@@ -43,7 +46,23 @@ recordRig =
 -- two logs of demand 3, from one record and memory: a record of bytes, of any length, byte 14 being 1
 pub record RecordPair (s : RecordState) (la lb : List Call) : Type 0 where
   pub small : (k : ℕ) → at (s .bytes) k < 256
-  pub pair : PairOf recordRig dataCall s la lb
+  pub pair : PairOf recordSystem dataCall s la lb
+
+-- step k of the reload cannot be spared, by exported calls: the same on a record that calls take
+pub record RecordNeeded (k : ℕ) : Type 0 where
+  pub start : RecordState
+  pub log-a : List Call
+  pub log-b : List Call
+  pub pair : RecordPair start log-a log-b
+  pub held : Held (state (unitOf (start .bytes)) (start .memory))
+  pub taken : loadCall (start .bytes) .answer .number ≡ 0
+  pub fit-a : AllFit log-a
+  pub fit-b : AllFit log-b
+  pub at-a : Places
+  pub at-b : Places
+  pub bytes : Bytes
+  pub fit : AllFit (joined (seven at-a bytes)) × AllFit (joined (seven at-b bytes))
+  pub differ : endOf recordSystem (without k at-a bytes) (endOf recordSystem log-a start) .bytes ≡ endOf recordSystem (without k at-b bytes) (endOf recordSystem log-b start) .bytes → ⊥
 
 -- records and memories that are equal, and answer every further list of calls alike, on any memory
 pub record RecordAlike (s t : RecordState) : Type 0 where

@@ -2,11 +2,10 @@
 use mathlib.Core.Path.{_≡_}
 use lib.ListN.{replicate}
 use Rattle.model.specs.declared.Access.{Access}
-use Rattle.model.specs.Unit.{state}
+use Rattle.model.specs.Unit.{playMemory, state}
 use Rattle.model.specs.Record.{boardOk}
 use Rattle.model.specs.Calls.{freshCall}
 use Rattle.model.specs.Log.{startState}
-use Rattle.log.specs.Play.{playMemory}
 
 pub begins : (x : Access) → x ≡ freshCall 9
     → state (x .unit) (playMemory (replicate 4096 0) (replicate 4096 0) (replicate 2048 0) (replicate 256 0) (replicate 32 0) (replicate 256 0)) ≡ startState

@@ -1,12 +1,12 @@
 // Plays a log of accesses from standard input and prints what its records come to, in constant memory, from a fresh
 // unit of board 9 and memory that is all zero. The work is done by the crate log; here are the reads and writes.
-// read_more, goes_on, turn: one block. turns_left, play_input: block after block. main: the memory.
+// goes_on, read_more, play_read, turn: one block. turns_left, play_input: block after block. main: the memory.
 ghost use mathlib.Core.Path.{_≡_};
 ghost use Prim.Native.Nat.{_+_, _<_, _≤_};
-ghost use lib.ListN.{length};
-ghost use Rattle.model.specs.Unit.{state};
+ghost use lib.ListN.{length, take};
+ghost use Rattle.model.specs.Unit.{state, playMemory};
 ghost use Rattle.model.specs.Log.{startState};
-ghost use Rattle.log.specs.Play.{playMemory};
+ghost use Rattle.player.specs.Turns.{goesOn, turnsAfter, IsBlockTurn, IsTurn, IsInput};
 use model::Ppu;
 
 // The unit after a block, how many bytes are kept of a record that the block cut, and whether to go on.
@@ -16,8 +16,10 @@ struct Progress {
     going: bool,
 }
 
-// Whether to read on: something was read, what it printed could be written, and no refusal 5 ended the play.
-fn goes_on(more: usize, is_written: bool, ended: bool) -> bool {
+// Whether to read on: something was read, no refusal 5 has ended the play, and what it printed could be written.
+fn goes_on(more: usize, is_written: bool, ended: bool) -> bool
+    ensures { λ r. ⌜ r ≡ goesOn more «is_written» ended ⌝ }
+{
     if more == 0 {
         return false;
     }
@@ -30,16 +32,17 @@ fn goes_on(more: usize, is_written: bool, ended: bool) -> bool {
 // Reads once, behind the bytes that are kept; how many bytes came, 0 at the end of the input and where it cannot be read.
 fn read_more(block: &mut [u8], kept: usize) -> usize
     requires { ⌜ kept ≤ length (now block) ⌝ }
-    ensures { λ r. ⌜ kept + r ≤ length (now (block .entry)) ⌝ }
+    ensures { λ r. ⌜ (kept + r ≤ length (now (block .entry))) × (take kept (now (block .exit)) ≡ take kept (now (block .entry))) ⌝ }
 {
     let got = libc::read(libc::STDIN_FILENO, &mut block[kept..]);
     io::count(got, &block[kept..])
 }
 
-// Reads, plays what is there and writes what that prints.
-fn turn(
+// Plays a block in which so many bytes were read behind those that are kept, and writes what that prints.
+fn play_read(
     u: Ppu,
     kept: usize,
+    more: usize,
     block: &mut [u8],
     out: &mut [u8],
     left: &mut [u8],
@@ -49,10 +52,10 @@ fn turn(
     palette: &mut [u8],
     line: &mut [u8],
 ) -> Progress
-    requires { ⌜ (kept < 4) × (length (now block) ≡ 16384) × (length (now out) ≡ 65536) ⌝ }
-    ensures { λ r. ⌜ r .kept < 4 ⌝ }
+    requires { ⌜ (kept + more ≤ length (now block)) × (length (now block) ≡ 16384) × (length (now out) ≡ 65536) ⌝ }
+    ensures { λ r. ⌜ IsBlockTurn kept more (now (block .entry)) (state u (playMemory (now (left .entry)) (now (right .entry)) (now (nametables .entry)) (now (oam .entry)) (now (palette .entry)) (now (line .entry))))
+        (now (out .entry)) r (playMemory (now (left .exit)) (now (right .exit)) (now (nametables .exit)) (now (oam .exit)) (now (palette .exit)) (now (line .exit))) (now (out .exit)) (now (block .exit)) ⌝ }
 {
-    let more = read_more(block, kept);
     let b = log::play_block(
         u,
         block,
@@ -69,19 +72,50 @@ fn turn(
     let played = b.played;
     let written = played.written;
     let is_written = io::write_all(libc::STDOUT_FILENO, &out[..written]);
+    let going = goes_on(more, is_written, played.ended);
     let unit = played.unit;
-    Progress {
-        unit,
-        kept: b.kept,
-        going: goes_on(more, is_written, played.ended),
-    }
+    let kept = b.kept;
+    Progress { unit, kept, going }
+}
+
+// Reads, plays what is there and writes what that prints.
+fn turn(
+    u: Ppu,
+    kept: usize,
+    block: &mut [u8],
+    out: &mut [u8],
+    left: &mut [u8],
+    right: &mut [u8],
+    nametables: &mut [u8],
+    oam: &mut [u8],
+    palette: &mut [u8],
+    line: &mut [u8],
+) -> Progress
+    requires { ⌜ (kept < 4) × (length (now block) ≡ 16384) × (length (now out) ≡ 65536) ⌝ }
+    ensures { λ r. ⌜ IsTurn kept (now (block .entry)) (state u (playMemory (now (left .entry)) (now (right .entry)) (now (nametables .entry)) (now (oam .entry)) (now (palette .entry)) (now (line .entry))))
+        (now (out .entry)) r (playMemory (now (left .exit)) (now (right .exit)) (now (nametables .exit)) (now (oam .exit)) (now (palette .exit)) (now (line .exit))) (now (out .exit)) (now (block .exit)) ⌝ }
+{
+    let more = read_more(block, kept);
+    play_read(
+        u,
+        kept,
+        more,
+        block,
+        out,
+        left,
+        right,
+        nametables,
+        oam,
+        palette,
+        line,
+    )
 }
 
 // A proved loop has to end, and nothing says that the input does: so the turns that are left are counted down, from a
 // number that no run uses up, to 0 at the end.
 fn turns_left(turns: u64, going: bool) -> u64
     requires { ⌜ 0 < turns ⌝ }
-    ensures { λ r. ⌜ r < turns ⌝ }
+    ensures { λ r. ⌜ (r < turns) × (r ≡ turnsAfter turns going) ⌝ }
 {
     if going {
         return turns - 1;
@@ -102,6 +136,8 @@ fn play_input(
     line: &mut [u8],
 )
     requires { ⌜ (state u (playMemory (now left) (now right) (now nametables) (now oam) (now palette) (now line)) ≡ startState) × (length (now block) ≡ 16384) × (length (now out) ≡ 65536) ⌝ }
+    ensures { λ _. ⌜ IsInput u (playMemory (now (left .entry)) (now (right .entry)) (now (nametables .entry)) (now (oam .entry)) (now (palette .entry)) (now (line .entry))) (now (out .entry)) (now (block .entry))
+        (playMemory (now (left .exit)) (now (right .exit)) (now (nametables .exit)) (now (oam .exit)) (now (palette .exit)) (now (line .exit))) (now (out .exit)) (now (block .exit)) ⌝ }
 {
     let mut n = u;
     let mut kept = 0;

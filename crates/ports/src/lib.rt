@@ -30,7 +30,7 @@ use model::Access;
 use model::Ppu;
 
 // The answer of a read; only ports 4 and 7 see memory.
-fn read_byte(u: Ppu, port: u16, oam: &[u8], palette: &[u8]) -> u8
+pub fn read_byte(u: Ppu, port: u16, oam: &[u8], palette: &[u8]) -> u8
     requires { ⌜ (length (now oam) ≡ oamLength) × (length (now palette) ≡ paletteLength) ⌝ }
     ensures { λ r. ⌜ r ≡ readByte port u (accessCells [] [] [] (now (oam .entry)) (now (palette .entry))) ⌝ }
 {
@@ -51,7 +51,7 @@ fn read_byte(u: Ppu, port: u16, oam: &[u8], palette: &[u8]) -> u8
 }
 
 // The unit after a read with this answer.
-fn read_unit(
+pub fn read_unit(
     u: Ppu,
     port: u16,
     answer: u8,

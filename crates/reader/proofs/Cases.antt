@@ -10,21 +10,21 @@ use lib.ListN.{length, getD, drop, length-drop, drop-of-length-le}
 use lib.Seq.{getD-drop}
 use borrow.Author.Tests.{eq-eqb, ne-eqb}
 use Rattle.model.specs.declared.Entry.{Entry}
-use Rattle.model.specs.declared.Entry.the-variants.{Read, Write, Run, End, Refused}
-use Rattle.model.specs.Log.{whole, recordsOf, recordKnown, recordEntry, entryOf}
+use Rattle.model.specs.declared.Entry.the-variants.{Read, Write, Run, Refused}
+use Rattle.model.specs.Log.{whole, recordsOf, recordKnown, recordEntry, frontOf, entryOf}
 
 -- READING. A record that must end in a zero byte
 module _ (b : ℕ) (e r : Entry) where
-  pub zero-1 : b ≡ 0 → r ≡ e → r ≡ cond (eqb b 0) e (Refused 5)
+  pub zero-1 : b ≡ 0 → r ≡ e → r ≡ cond (eqb b 0) e Refused
   zero-1 p h = h ∙ rw (eq-eqb b 0 p)
 
-  pub zero-2 : (b ≡ 0 → ⊥) → r ≡ Refused 5 → r ≡ cond (eqb b 0) e (Refused 5)
+  pub zero-2 : (b ≡ 0 → ⊥) → r ≡ Refused → r ≡ cond (eqb b 0) e Refused
   zero-2 p h = h ∙ rw (ne-eqb b 0 p)
 
 pub ruleset zero-cases = (zero-1, zero-2)
 
 module _ (k h l b : ℕ) (r : Entry) where
-  pub entry-1 : k ≡ 0 → r ≡ cond (eqb b 0) (Read (h * 256 + l)) (Refused 5) → r ≡ recordEntry (whole k h l b)
+  pub entry-1 : k ≡ 0 → r ≡ cond (eqb b 0) (Read (h * 256 + l)) Refused → r ≡ recordEntry (whole k h l b)
   unfolding recordEntry recordKnown
   entry-1 p e = e ∙ rw p
 
@@ -32,27 +32,27 @@ module _ (k h l b : ℕ) (r : Entry) where
   unfolding recordEntry recordKnown
   entry-2 p e = e ∙ rw p
 
-  pub entry-3 : k ≡ 2 → r ≡ cond (eqb b 0) (Run (h * 256 + l)) (Refused 5) → r ≡ recordEntry (whole k h l b)
+  pub entry-3 : k ≡ 2 → r ≡ cond (eqb b 0) (Run (h * 256 + l)) Refused → r ≡ recordEntry (whole k h l b)
   unfolding recordEntry recordKnown
   entry-3 p e = e ∙ rw p
 
-  pub entry-4 : (k ≡ 0 → ⊥) → (k ≡ 1 → ⊥) → (k ≡ 2 → ⊥) → r ≡ Refused 5 → r ≡ recordEntry (whole k h l b)
+  pub entry-4 : (k ≡ 0 → ⊥) → (k ≡ 1 → ⊥) → (k ≡ 2 → ⊥) → r ≡ Refused → r ≡ recordEntry (whole k h l b)
   unfolding recordEntry recordKnown
   entry-4 p q s e = e ∙ rw (ne-eqb k 0 p, ne-eqb k 1 q, ne-eqb k 2 s)
 
 pub ruleset entry-cases = (entry-1, entry-2, entry-3, entry-4)
 
 -- what stands at the front: a cut record, a whole one
-short-front : (d : List ℕ) → 0 < length d → length d < 4 → entryOf (recordsOf d) ≡ Refused 5
-unfolding recordsOf entryOf recordEntry
-short-front [] p q = absurd (omega arith)
-short-front (a ∷ []) p q = refl
-short-front (a ∷ b ∷ []) p q = refl
-short-front (a ∷ b ∷ c ∷ []) p q = refl
-short-front (a ∷ b ∷ c ∷ d ∷ r) p q = absurd (omega arith)
+short-front : (d : List ℕ) → length d < 4 → entryOf (recordsOf d) ≡ Refused
+unfolding recordsOf frontOf entryOf recordEntry
+short-front [] q = refl
+short-front (a ∷ []) q = refl
+short-front (a ∷ b ∷ []) q = refl
+short-front (a ∷ b ∷ c ∷ []) q = refl
+short-front (a ∷ b ∷ c ∷ d ∷ r) q = absurd (omega arith)
 
 long-front : (d : List ℕ) → 4 ≤ length d → entryOf (recordsOf d) ≡ recordEntry (whole (getD d 0 0) (getD d 1 0) (getD d 2 0) (getD d 3 0))
-unfolding recordsOf entryOf
+unfolding recordsOf frontOf entryOf
 long-front [] p = absurd (omega arith)
 long-front (a ∷ []) p = absurd (omega arith)
 long-front (a ∷ b ∷ []) p = absurd (omega arith)
@@ -60,12 +60,11 @@ long-front (a ∷ b ∷ c ∷ []) p = absurd (omega arith)
 long-front (a ∷ b ∷ c ∷ d ∷ r) p = refl
 
 module _ (at : ℕ) (l : List ℕ) (r : Entry) where
-  pub found-1 : length l ≤ at → r ≡ End → r ≡ entryOf (recordsOf (drop at l))
-  unfolding recordsOf entryOf
-  found-1 p e = e ∙ rw (drop-of-length-le l {i = at} p)
+  pub found-1 : length l ≤ at → r ≡ Refused → r ≡ entryOf (recordsOf (drop at l))
+  found-1 p e = e ∙ sym (short-front (drop at l) (rw (drop-of-length-le l {i = at} p) (omega arith)))
 
-  pub found-2 : at < length l → length l - at < 4 → r ≡ Refused 5 → r ≡ entryOf (recordsOf (drop at l))
-  found-2 p q e = e ∙ sym (short-front (drop at l) (simp length-drop (omega arith)) (simp length-drop q))
+  pub found-2 : at < length l → length l - at < 4 → r ≡ Refused → r ≡ entryOf (recordsOf (drop at l))
+  found-2 p q e = e ∙ sym (short-front (drop at l) (simp length-drop q))
 
   pub found-3 : (k h m b : ℕ) → at < length l → 4 ≤ length l - at → k ≡ getD l at 0 → h ≡ getD l (at + 1) 0 → m ≡ getD l (at + 2) 0 → b ≡ getD l (at + 3) 0
       → r ≡ recordEntry (whole k h m b) → r ≡ entryOf (recordsOf (drop at l))

@@ -21,12 +21,12 @@ pub struct Step {
 
 // An entry whose record must end in a zero byte.
 fn zero_ended(last: u8, e: Entry) -> Entry
-    ensures { λ r. ⌜ r ≡ cond (eqb last 0) e (Entry.Refused 5) ⌝ }
+    ensures { λ r. ⌜ r ≡ cond (eqb last 0) e Entry.Refused ⌝ }
 {
     if last == 0 {
         return e;
     }
-    Entry::Refused(5)
+    Entry::Refused
 }
 
 // The entry of a whole record.
@@ -43,10 +43,10 @@ fn whole_entry(kind: u8, high: u8, low: u8, last: u8) -> Entry
     if kind == 2 {
         return zero_ended(last, Entry::Run(address));
     }
-    Entry::Refused(5)
+    Entry::Refused
 }
 
-// What stands at a cursor: a record's entry, a refusal where the log is cut in it, or the end.
+// What stands at a cursor: a record's entry, or a refusal where the log is cut in it or ends there.
 pub fn next(c: Cursor, log: &[u8]) -> Step
     ensures { λ r. ⌜ (r .found ≡ entryOf (recordsOf (drop (c .at) (now (log .entry))))) × (r .next .at ≡ min (c .at + 4) (length (now (log .entry)))) ⌝ }
 {
@@ -54,13 +54,13 @@ pub fn next(c: Cursor, log: &[u8]) -> Step
     let end = log.len();
     if at >= end {
         return Step {
-            found: Entry::End,
+            found: Entry::Refused,
             next: Cursor { at: end },
         };
     }
     if end - at < 4 {
         return Step {
-            found: Entry::Refused(5),
+            found: Entry::Refused,
             next: Cursor { at: end },
         };
     }

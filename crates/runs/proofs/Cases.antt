@@ -15,6 +15,11 @@ use Rattle.model.proofs.Good.{good-of}
 use Rattle.model.proofs.Accepted.{is-refused, is-done, order-0, order-formed, and-none, all5}
 use Rattle.scanline.specs.Shown.{LineLengths}
 
+pub run-1 : (u next : Ppu) (l r n o b b′ : List ℕ) (k : ℕ) (x : Access) → state next (lineMemory l r n o b′) ≡ linesRun k (state u (lineMemory l r n o b))
+    → x ≡ access (doneAnswer 0 k next) next → lineOutcome x l r n o b′ ≡ runDone k (state u (lineMemory l r n o b))
+unfolding runDone
+run-1 u next l r n o b b′ k x e f = ap (λ (y : Access). lineOutcome y l r n o b′) f ∙ (λ i. outcome (doneAnswer 0 k (e i .unit)) (e i))
+
 module _ (u : Ppu) (l r n o b : List ℕ) (s : Bool) (k : ℕ) (hs : s ≡ lineSizes (u .board) (length l) (length r) (length n) (length o) (length b)) (hk : k ≡ plainRefusal s u) where
   same-line : (c : Call) → inRange c ≡ true → blocked c ≡ false → longFor c u (lineMemory l r n o b) ≡ lineSizes (u .board) (length l) (length r) (length n) (length o) (length b)
       → k ≡ refusalOf c (state u (lineMemory l r n o b))
@@ -55,9 +60,11 @@ module _ (u : Ppu) (l r n o b : List ℕ) (s : Bool) (k : ℕ) (hs : s ≡ lineS
       f ∙ ap (λ (i : ℕ). runDone i (state u (lineMemory l r n o b))) e
       ∙ is-done (runCall own 1 most) (state u (lineMemory l r n o b)) k (same-line (runCall own 1 most) refl refl refl) h
 
-  pub run-plain : (x : Outcome) (most : ℕ) → k ≡ 0 → x ≡ runDone most (state u (lineMemory l r n o b)) → x ≡ onLent (runCall own 0 most) (state u (lineMemory l r n o b))
+  pub run-plain : (x : Access) (next : Ppu) (b′ : List ℕ) (most : ℕ) → k ≡ 0 → state next (lineMemory l r n o b′) ≡ linesRun most (state u (lineMemory l r n o b))
+      → x ≡ access (doneAnswer 0 most next) next → lineOutcome x l r n o b′ ≡ onLent (runCall own 0 most) (state u (lineMemory l r n o b))
   unfolding done lineCount
-  run-plain x most h f = f ∙ is-done (runCall own 0 most) (state u (lineMemory l r n o b)) k (same-line (runCall own 0 most) refl refl refl) h
+  run-plain x next b′ most h e f =
+      run-1 u next l r n o b b′ most x e f ∙ is-done (runCall own 0 most) (state u (lineMemory l r n o b)) k (same-line (runCall own 0 most) refl refl refl) h
 
 module _ (u : Ppu) (s : Bool) (k : ℕ) (hk : k ≡ plainRefusal s u) (h : k ≡ 0) where
   pub line-formed : isWellFormed u ≡ true
@@ -70,8 +77,3 @@ module _ (u : Ppu) (s : Bool) (k : ℕ) (hk : k ≡ plainRefusal s u) (h : k ≡
 pub ruleset line-cases = (line-refused, line-done)
 
 pub ruleset run-cases = (run-refused, run-nmi, run-plain)
-
-pub run-1 : (u next : Ppu) (l r n o b b′ : List ℕ) (k : ℕ) (x : Access) → state next (lineMemory l r n o b′) ≡ linesRun k (state u (lineMemory l r n o b))
-    → x ≡ access (doneAnswer 0 k next) next → lineOutcome x l r n o b′ ≡ runDone k (state u (lineMemory l r n o b))
-unfolding runDone
-run-1 u next l r n o b b′ k x e f = ap (λ (y : Access). lineOutcome y l r n o b′) f ∙ (λ i. outcome (doneAnswer 0 k (e i .unit)) (e i))

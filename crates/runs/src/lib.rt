@@ -110,5 +110,6 @@ pub fn run_all(
     if n != 0 {
         return unit::refused(n, u);
     }
-    run_done(u, lines, left, right, nametables, oam, line)
+    let next = scanline::run_all(u, lines, left, right, nametables, oam, line);
+    unit::done(0, lines, next)
 }

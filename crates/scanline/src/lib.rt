@@ -258,3 +258,43 @@ pub fn run(
     }
     next
 }
+
+// The same once more, for a log's run: a function that two exports share stays a call in both, and each would be slower.
+pub fn run_all(
+    u: Ppu,
+    n: u16,
+    left: &[u8],
+    right: &[u8],
+    nametables: &[u8],
+    oam: &[u8],
+    line: &mut [u8],
+) -> Ppu
+    requires { ⌜ LineLengths (u .board) (now left) (now right) (now nametables) (now oam) (now line) × (isWellFormed u ≡ true) ⌝ }
+    ensures { λ r. ⌜ state r (lineMemory (now (left .entry)) (now (right .entry)) (now (nametables .entry)) (now (oam .entry)) (now (line .exit))) ≡ linesRun n (state u (lineMemory (now (left .entry)) (now (right .entry)) (now (nametables .entry)) (now (oam .entry)) (now (line .entry)))) ⌝ }
+{
+    let mut next = u;
+    let mut i: u16 = 0;
+    while i < n {
+        i += 1;
+        if lines::draws(next) {
+            let board = next.board;
+            let f = draw(
+                next.control,
+                next.mask,
+                next.v,
+                next.x,
+                next.scanline,
+                board,
+                left,
+                right,
+                nametables,
+                oam,
+                line,
+            );
+            next = lines::drawn(next, f.hit, f.over);
+            continue;
+        }
+        next = undrawn(next, line);
+    }
+    next
+}

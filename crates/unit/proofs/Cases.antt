@@ -9,7 +9,7 @@ use Rattle.model.specs.declared.Ppu.{Ppu}
 use Rattle.model.specs.declared.Access.{Access}
 use Rattle.model.specs.Unit.{withV, bit, isRendering, isDrawing, isWellFormed, nmiLevel}
 use Rattle.model.specs.Ports.{stepped}
-use Rattle.model.specs.Scroll.{turn10, turn11, rowDown, right, copySide}
+use Rattle.model.specs.Scroll.{turn11, rowDown, copySide}
 use Rattle.model.specs.Calls.{answer, access, doneAnswer}
 
 pub rendering-1 : (u : Ppu) (k : ℕ) → k ≡ u .mask / 8 % 4 → not (eqb k 0) ≡ isRendering u
@@ -84,22 +84,11 @@ module _ (v r a : ℕ) (ea : a ≡ v / 4096 % 8) where
     unfolding rowDown
     down-4 q q′ e = e ∙ rw (ef, le-ltb (v / 4096 % 8) 7 (omega arith), ne-eqb (v / 32 % 32) 29 (λ z. q (omega arith)), ne-eqb (v / 32 % 32) 31 (λ z. q′ (omega arith)))
 
-module _ (v r a : ℕ) (ea : a ≡ v % 32) where
-  pub right-1 : a ≡ 31 → r ≡ turn10 (v - 31) → r ≡ right v
-  unfolding right
-  right-1 p e = e ∙ rw (eq-eqb (v % 32) 31 (omega arith))
-
-  pub right-2 : (a ≡ 31 → ⊥) → r ≡ v + 1 → r ≡ right v
-  unfolding right
-  right-2 p e = e ∙ rw (ne-eqb (v % 32) 31 (λ z. p (omega arith)))
-
 pub side-1 : (t v r a b d : ℕ) → a ≡ v / 32 % 32 → b ≡ t / 1024 % 2 → d ≡ t % 32 → r ≡ v / 2048 * 2048 + a * 32 + b * 1024 + d → r ≡ copySide t v
 unfolding copySide
 side-1 t v r a b d ea eb ed e = e ∙ omega arith
 
 pub ruleset down-cases = (down-1, down-2, down-3, down-4)
-
-pub ruleset right-cases = (right-1, right-2)
 
 -- a call that is done, by the NMI level that the code found
 pub done-1 : (b k : ℕ) (u : Ppu) (n : Bool) (r : Access) → n ≡ nmiLevel u → r ≡ access (answer 0 b k n) u → r ≡ access (doneAnswer b k u) u

@@ -1,11 +1,11 @@
 // The unit by itself: Ppu -> Ppu, no memory. Inner functions, not public calls.
-// rendering, drawing, well_formed, nmi; v's steps: row_down, column_right, copy_side, and step after an access of port 7;
+// rendering, drawing, well_formed, nmi; v's steps: row_down, copy_side, and step after an access of port 7;
 // what a call hands back: done, refused.
 ghost use mathlib.Core.Path.{_≡_};
 ghost use Prim.Native.Nat.{_+_, _*_, _/_, _%_, _<_};
 ghost use Rattle.model.specs.Unit.{isRendering, isDrawing, isWellFormed, nmiLevel};
 ghost use Rattle.model.specs.Ports.{stepped};
-ghost use Rattle.model.specs.Scroll.{turn10, turn11, rowDown, right, copySide};
+ghost use Rattle.model.specs.Scroll.{turn11, rowDown, copySide};
 ghost use Rattle.model.specs.Calls.{access, doneAnswer, refusedAccess};
 use model::Access;
 use model::Answer;
@@ -60,17 +60,6 @@ pub fn nmi(u: Ppu) -> bool
     false
 }
 
-// An address with bit 10 turned.
-fn turned_10(v: u16) -> u16
-    requires { ⌜ v < 32768 ⌝ }
-    ensures { λ r. ⌜ r ≡ turn10 v ⌝ }
-{
-    if bits::low16(v >> 10, 1) == 0 {
-        return v + 1024;
-    }
-    v - 1024
-}
-
 // The address of a row's first fine line, with bit 11 turned.
 fn turned_11(v: u16) -> u16
     requires { ⌜ v < 4096 ⌝ }
@@ -99,17 +88,6 @@ pub fn row_down(v: u16) -> u16
         return first - 992;
     }
     first + 32
-}
-
-// v one column right.
-pub fn column_right(v: u16) -> u16
-    requires { ⌜ v < 32768 ⌝ }
-    ensures { λ r. ⌜ r ≡ right v ⌝ }
-{
-    if bits::low16(v, 5) == 31 {
-        return turned_10(v - 31);
-    }
-    v + 1
 }
 
 // v with bits 10 and 4-0 of t.

@@ -35,9 +35,6 @@ enum-told-3 c = search needs
 enum-told-4 : tie.Need-enum-told-4
 enum-told-4 c = search needs
 
-enum-told-5 : tie.Need-enum-told-5
-enum-told-5 c = search needs
-
 same-length-2 : tie.Need-same-length-2
 same-length-2 c = search needs
 
@@ -56,9 +53,6 @@ returns-4 c = search text-cases
 returns-5 : tie.Need-returns-5
 returns-5 c = search text-cases
 
-returns-6 : tie.Need-returns-6
-returns-6 c = search text-cases
-
 pub put-text-spec : {M : Type 1} → statement M
 put-text-spec =
     tie.close
@@ -72,11 +66,9 @@ put-text-spec =
     put-run-requires
     enum-told-3
     enum-told-4
-    enum-told-5
     same-length-2
     returns-2
     same-length-3
     returns-3
     returns-4
-    returns-5
-    returns-6)
+    returns-5)

@@ -7,20 +7,20 @@ use Rattle.log.proofs.play_block.Tie as tie
 use Rattle.log.proofs.play_block.Reads as reads
 use Rattle.log.proofs.play_block.Lts as lts
 use Rattle.log.proofs.keep.Reads as keep-reads
-use Rattle.log.proofs.play.Reads as play-reads
+use Rattle.log.proofs.play_log.Reads as play-log-reads
 use Rattle.log.proofs.whole.Reads as whole-reads
 
 whole-requires : tie.Need-whole-requires
 whole-requires c κs = search needs
 
-slice-reshare-prefix-play : tie.Need-slice-reshare-prefix-play
-slice-reshare-prefix-play c = search needs
+slice-reshare-prefix-play-log : tie.Need-slice-reshare-prefix-play-log
+slice-reshare-prefix-play-log c = search needs
 
-slice-aggregate-play : tie.Need-slice-aggregate-play
-slice-aggregate-play c = simp length-take (omega arith)
+slice-aggregate-play-log : tie.Need-slice-aggregate-play-log
+slice-aggregate-play-log c = simp length-take (omega arith)
 
-play-requires : tie.Need-play-requires
-play-requires c κs = simp length-take (omega arith)
+play-log-requires : tie.Need-play-log-requires
+play-log-requires c κs = simp length-take (omega arith)
 
 keep-requires : tie.Need-keep-requires
 keep-requires c κs = (c .before .before .before .before .before .before .before .before .before .before .before .before .before .before .before .before .before .before .before .before .before .before .before .before .whole .ensures .1, c .before .before .before .before .before .before .before .before .before .before .before .before .before .before .before .before .before .before .before .before .before .before .before .before .before .before .before .before .before .before .before .before .before .pre .0)
@@ -51,16 +51,16 @@ same-length-8 c = search needs
 
 returns : tie.Need-returns
 returns c =
-    block-done _ _ _ _ _ _ _ _ _ _ _ (c .before .before .before .before .before .before .before .before .before .before .before .before .before .before .before .before .before .before .before .before .before .before .before .before .before .before .before .whole .ensures .0) (c .before .before .before .before .before .before .before .before .before .before .before .before .before .before .before .before .before .before .play .ensures) (c .before .before .keep .ensures .1) (c .before .before .keep .ensures .0)
+    block-done _ _ _ _ _ _ _ _ _ _ _ (c .before .before .before .before .before .before .before .before .before .before .before .before .before .before .before .before .before .before .before .before .before .before .before .before .before .before .before .whole .ensures .0) (c .before .before .before .before .before .before .before .before .before .before .before .before .before .before .before .before .before .before .play-log .ensures) (c .before .before .keep .ensures .1) (c .before .before .keep .ensures .0)
 
 pub play-block-spec : {M : Type 1} → statement M
 play-block-spec =
     tie.close
     (tie.spec
     whole-requires
-    slice-reshare-prefix-play
-    slice-aggregate-play
-    play-requires
+    slice-reshare-prefix-play-log
+    slice-aggregate-play-log
+    play-log-requires
     keep-requires
     same-length
     same-length-2

@@ -4,7 +4,7 @@ use Rattle.log.proofs.play_one.Statement.{statement}
 use Rattle.log.proofs.play_one.Tie as tie
 use Rattle.log.proofs.play_one.Reads as reads
 use Rattle.log.proofs.play_one.Lts as lts
-use Rattle.log.proofs.play_entry.Reads as play-entry-reads
+use Rattle.calls_play.proofs.play_entry.Reads as play-entry-reads
 use Rattle.answers.proofs.put_text.Reads as put-text-reads
 
 play-entry-requires : tie.Need-play-entry-requires

@@ -2,8 +2,9 @@ use Prim.Native.Nat.{_<_}
 use mathlib.Core.Path.{_≡_, _∙_}
 use lib.ListN.{length}
 use borrow.Author.Needs.{needs}
+use Rattle.model.specs.Unit.{playMemory}
 use Rattle.model.proofs.Good.{SameLengths}
-use Rattle.log.specs.Play.{playMemory}
+use Rattle.player.proofs.Cases.{Playing, input-start, input-next, input-over}
 use Rattle.player.proofs.play_input.Statement.{statement}
 use Rattle.player.proofs.play_input.Tie as tie
 use Rattle.player.proofs.play_input.Reads as reads
@@ -15,12 +16,13 @@ abbrev Inv-loop : tie.InvT-loop
 Inv-loop block₀ out₀ left₀ right₀ nametables₀ oam₀ palette₀ line₀ n₀ kept₀ turns₀ block out left right nametables oam palette line n kept turns =
     (kept < 4) × (length block ≡ length block₀) × (length out ≡ length out₀)
     × SameLengths (playMemory left₀ right₀ nametables₀ oam₀ palette₀ line₀) (playMemory left right nametables oam palette line)
+    × Playing n₀ (playMemory left₀ right₀ nametables₀ oam₀ palette₀ line₀) out₀ block₀ n kept turns (playMemory left right nametables oam palette line) out block
 
 abbrev μ-loop : tie.MeasureT-loop
 μ-loop block₀ out₀ left₀ right₀ nametables₀ oam₀ palette₀ line₀ n₀ kept₀ turns₀ block out left right nametables oam palette line n kept turns = turns
 
 loop-holds : tie.Need-loop-holds Inv-loop μ-loop
-loop-holds c = (search needs, search needs, search needs, search needs)
+loop-holds c = (search needs, search needs, search needs, search needs, input-start _ _ _ _)
 
 turn-requires : tie.Need-turn-requires Inv-loop μ-loop
 turn-requires c κs = search needs
@@ -33,7 +35,7 @@ loop-less c = search needs
 
 loop-again : tie.Need-loop-again Inv-loop μ-loop
 loop-again c = (
-  c .before .before .before .before .before .before .before .before .before .before .before .before .before .before .before .before .before .before .turn .ensures,
+  c .before .before .before .before .before .before .before .before .before .before .before .before .before .before .before .before .before .before .turn .ensures .turn .short,
   c .before .before .before .before .before .before .before .before .before .before .before .before .before .before .before .before .before .block .given ∙ c .before .before .before .before .before .before .before .before .before .before .before .before .before .before .before .before .before .before .before .before .before .before .before .before .before .before .before .before .loop .inv .1,
   c .before .before .before .before .before .before .before .before .before .before .before .before .before .before .before .out .given ∙ c .before .before .before .before .before .before .before .before .before .before .before .before .before .before .before .before .before .before .before .before .before .before .before .before .before .before .before .before .loop .inv .2,
   record {
@@ -46,6 +48,7 @@ loop-again c = (
     };
     line = c .before .before .before .line .given ∙ c .before .before .before .before .before .before .before .before .before .before .before .before .before .before .before .before .before .before .before .before .before .before .before .before .before .before .before .before .loop .inv .3 .line;
   },
+  input-next _ _ _ _ _ _ _ _ _ _ (c .before .before .before .before .before .before .before .before .before .before .before .before .before .before .before .before .before .before .before .before .before .before .before .before .before .before .before .before .loop .inv .4) _ _ _ _ _ (c .before .before .before .before .before .before .before .before .before .before .before .before .before .before .before .before .before .before .before .before .before .before .before .before .before .before .before .loop-test .taken) (c .before .before .before .before .before .before .before .before .before .before .before .before .before .before .before .before .before .before .turn .ensures) (c .turns-left .ensures .1),
 )
 
 same-length : tie.Need-same-length Inv-loop μ-loop
@@ -73,7 +76,7 @@ same-length-8 : tie.Need-same-length-8 Inv-loop μ-loop
 same-length-8 c = search needs
 
 returns : tie.Need-returns Inv-loop μ-loop
-returns c = search needs
+returns c = input-over _ _ _ _ _ _ _ _ _ _ (c .before .loop .inv .4) (c .loop-test .left)
 
 pub play-input-spec : {M : Type 1} → statement M
 play-input-spec =

@@ -1,39 +1,20 @@
-use mathlib.Core.Path.{sym, _∙_}
-use lib.Seq.{length-take-le}
-use Rattle.log.proofs.Playing.{written-fits, kept-short}
+use Rattle.player.proofs.Cases.{turn-done}
 use borrow.Author.Needs.{needs}
 use Rattle.player.proofs.turn.Statement.{statement}
 use Rattle.player.proofs.turn.Tie as tie
 use Rattle.player.proofs.turn.Reads as reads
 use Rattle.player.proofs.turn.Lts as lts
-use Rattle.io.proofs.write_all.Reads as write-all-reads
-use Rattle.log.proofs.play_block.Reads as play-block-reads
-use Rattle.player.proofs.goes_on.Reads as goes-on-reads
+use Rattle.player.proofs.play_read.Reads as play-read-reads
 use Rattle.player.proofs.read_more.Reads as read-more-reads
 
 read-more-requires : tie.Need-read-more-requires
 read-more-requires c κs = search needs
 
-add-play-block : tie.Need-add-play-block
-add-play-block c = search needs
-
-play-block-requires : tie.Need-play-block-requires
-play-block-requires c κs = search needs
-
-slice-reshare-prefix-write-all : tie.Need-slice-reshare-prefix-write-all
-slice-reshare-prefix-write-all c = written-fits _ _ _ _ _ _ (c .before .before .before .before .before .before .before .before .before .before .before .before .before .before .before .before .before .play-block .ensures .0)
-
-slice-aggregate-write-all : tie.Need-slice-aggregate-write-all
-slice-aggregate-write-all c = sym (length-take-le _ _ (written-fits _ _ _ _ _ _ (c .before .before .before .before .before .before .before .before .before .before .before .before .before .before .before .before .before .before .play-block .ensures .0)))
-
-write-all-requires : tie.Need-write-all-requires
-write-all-requires c κs = search needs
-
-goes-on-requires : tie.Need-goes-on-requires
-goes-on-requires c κs = search needs
+play-read-requires : tie.Need-play-read-requires
+play-read-requires c κs = search needs
 
 same-length : tie.Need-same-length
-same-length c = c .before .before .before .before .before .before .before .before .before .before .before .before .before .before .before .before .before .before .before .before .block2 .given ∙ c .before .before .before .before .before .before .before .before .before .before .before .before .before .before .before .before .before .before .before .before .before .before .before .before .before .before .before .before .before .before .before .block .given
+same-length c = search needs
 
 same-length-2 : tie.Need-same-length-2
 same-length-2 c = search needs
@@ -57,19 +38,15 @@ same-length-8 : tie.Need-same-length-8
 same-length-8 c = search needs
 
 returns : tie.Need-returns
-returns c = kept-short _ _ _ (c .before .before .before .before .before .before .before .before .before .before .before .before .before .before .before .before .before .before .before .before .before .play-block .ensures .1)
+returns c =
+    turn-done _ _ _ _ _ _ _ _ _ _ (c .before .before .before .before .before .before .before .before .before .before .before .before .before .before .before .before .before .before .before .before .before .before .before .before .before .before .before .read-more .ensures .0) (c .before .before .before .before .before .before .before .before .before .before .before .before .before .before .before .before .before .before .before .before .before .before .before .before .before .before .block .given) (c .before .before .before .before .before .before .before .before .before .before .before .before .before .before .before .before .before .before .before .before .before .before .before .before .before .before .before .read-more .ensures .1) (c .before .before .before .before .before .before .before .before .before .before .before .before .before .before .before .before .play-read .ensures)
 
 pub turn-spec : {M : Type 1} → statement M
 turn-spec =
     tie.close
     (tie.spec
     read-more-requires
-    add-play-block
-    play-block-requires
-    slice-reshare-prefix-write-all
-    slice-aggregate-write-all
-    write-all-requires
-    goes-on-requires
+    play-read-requires
     same-length
     same-length-2
     same-length-3

@@ -6,8 +6,9 @@ use Rattle.runs.proofs.run_all.Reads as reads
 use Rattle.runs.proofs.run_all.Lts as lts
 use Rattle.refusals.proofs.line_sizes.Reads as line-sizes-reads
 use Rattle.refusals.proofs.plain_refusal.Reads as plain-refusal-reads
-use Rattle.runs.proofs.run_done.Reads as run-done-reads
+use Rattle.unit.proofs.done.Reads as done-reads
 use Rattle.unit.proofs.refused.Reads as refused-reads
+use Rattle.scanline.proofs.run_all.Reads as run-all-reads
 
 line-sizes-requires : tie.Need-line-sizes-requires
 line-sizes-requires c κs = search needs
@@ -21,8 +22,11 @@ refused-requires c κs = search needs
 returns : tie.Need-returns
 returns c = search run-cases
 
-run-done-requires : tie.Need-run-done-requires
-run-done-requires c κs = (search line-long, search line-formed)
+run-all-requires : tie.Need-run-all-requires
+run-all-requires c κs = (search line-long, search line-formed)
+
+done-requires : tie.Need-done-requires
+done-requires c κs = search needs
 
 same-length : tie.Need-same-length
 same-length c = search needs
@@ -38,6 +42,7 @@ run-all-spec =
     plain-refusal-requires
     refused-requires
     returns
-    run-done-requires
+    run-all-requires
+    done-requires
     same-length
     returns-2)

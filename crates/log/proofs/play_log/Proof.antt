@@ -4,12 +4,12 @@ use lib.ListN.{length}
 use borrow.Author.Needs.{needs}
 use Rattle.model.specs.Unit.{state}
 use Rattle.model.proofs.Good.{SameLengths}
-use Rattle.log.specs.Play.{playMemory}
+use Rattle.model.specs.Unit.{playMemory}
 use Rattle.log.proofs.Playing.{Playing, play-more, play-cases}
-use Rattle.log.proofs.play.Statement.{statement}
-use Rattle.log.proofs.play.Tie as tie
-use Rattle.log.proofs.play.Reads as reads
-use Rattle.log.proofs.play.Lts as lts
+use Rattle.log.proofs.play_log.Statement.{statement}
+use Rattle.log.proofs.play_log.Tie as tie
+use Rattle.log.proofs.play_log.Reads as reads
+use Rattle.log.proofs.play_log.Lts as lts
 use Rattle.reader.proofs.read_at.Reads as read-at-reads
 use Rattle.log.proofs.play_one.Reads as play-one-reads
 
@@ -97,8 +97,8 @@ same-length-14 c = search needs
 returns-2 : tie.Need-returns-2 Inv-loop μ-loop
 returns-2 c = search play-cases
 
-pub play-spec : {M : Type 1} → statement M
-play-spec =
+pub play-log-spec : {M : Type 1} → statement M
+play-log-spec =
     tie.close
     (tie.spec
     Inv-loop

@@ -1,13 +1,12 @@
-use Rattle.log.proofs.Playing.{plays-cases}
+use Rattle.calls_play.proofs.Cases.{plays-cases}
 use borrow.Author.Needs.{needs}
-use Rattle.log.proofs.play_entry.Statement.{statement}
-use Rattle.log.proofs.play_entry.Tie as tie
-use Rattle.log.proofs.play_entry.Reads as reads
-use Rattle.log.proofs.play_entry.Lts as lts
-use Rattle.runs.proofs.run_all.Reads as run-all-reads
-use Rattle.accesses.proofs.read.Reads as read-reads
+use Rattle.calls_play.proofs.play_entry.Statement.{statement}
+use Rattle.calls_play.proofs.play_entry.Tie as tie
+use Rattle.calls_play.proofs.play_entry.Reads as reads
+use Rattle.calls_play.proofs.play_entry.Lts as lts
+use Rattle.calls_play.proofs.read.Reads as read-reads
 use Rattle.accesses.proofs.write.Reads as write-reads
-use Rattle.unit.proofs.done.Reads as done-reads
+use Rattle.runs.proofs.run_all.Reads as run-all-reads
 use Rattle.unit.proofs.refused.Reads as refused-reads
 
 enum-known-e : tie.Need-enum-known-e
@@ -30,12 +29,6 @@ run-all-requires c κs = search needs
 
 enum-told : tie.Need-enum-told
 enum-told c = search needs
-
-done-requires : tie.Need-done-requires
-done-requires c κs = search needs
-
-enum-known-e-4 : tie.Need-enum-known-e-4
-enum-known-e-4 c = search needs
 
 refused-requires : tie.Need-refused-requires
 refused-requires c κs = search needs
@@ -97,9 +90,6 @@ returns-3 c = search plays-cases
 returns-4 : tie.Need-returns-4
 returns-4 c = search plays-cases
 
-returns-5 : tie.Need-returns-5
-returns-5 c = search plays-cases
-
 pub play-entry-spec : {M : Type 1} → statement M
 play-entry-spec =
     tie.close
@@ -111,8 +101,6 @@ play-entry-spec =
     enum-known-e-3
     run-all-requires
     enum-told
-    done-requires
-    enum-known-e-4
     refused-requires
     same-length
     same-length-2
@@ -132,5 +120,4 @@ play-entry-spec =
     same-length-14
     same-length-15
     returns-3
-    returns-4
-    returns-5)
+    returns-4)

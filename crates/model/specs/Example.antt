@@ -1,0 +1,68 @@
+-- Demand 3's conditions can be met: two logs with every kind of call in them, done and refused, which leave different units.
+use mathlib.Core.Path.{_≡_}
+use mathlib.Core.Bool.{true}
+use mathlib.Core.List.{List, [], _∷_, map}
+use Prim.Native.Nat.{ℕ}
+use lib.ListN.{replicate}
+use Rattle.model.specs.declared.Board.{Board}
+use Rattle.model.specs.declared.Wiring.the-variants.{SecondPage}
+use Rattle.model.specs.Unit.{Memory, accessCells, State, state, unit}
+use Rattle.model.specs.Record.{recordOf}
+use Rattle.model.specs.Calls.{own, other, Call, readCall, writeCall, dmaCall, lineCall, runCall}
+use Rattle.model.specs.Reload.{end, total, trace, dataCall, Places, Bytes, reload, Pair, Alike, Held, AllFit}
+use Rattle.model.specs.RecordLog.{RecordState, recordState, recordSystem, RecordPair, RecordAlike}
+
+-- all memory filled with a byte
+unfoldable pub filled : ℕ → Memory
+filled b =
+    record {
+      cells = accessCells (replicate 4096 b) (replicate 4096 b) (replicate 2048 b) (replicate 256 b) (replicate 32 b);
+      line = replicate 256 b;
+    }
+
+-- memory of wrong lengths
+unfoldable pub short : Memory
+short = record { cells = accessCells [] [] [] [] []; line = [] }
+
+-- next line 240, warmed up, NMI off; all else as large as a unit can hold
+unfoldable pub start : State
+start = state (unit 127 255 224 255 32767 32767 7 true 255 255 240 true (record { wiring = SecondPage; writable = true })) (filled 255)
+
+-- twenty lines, up to next line 260: a read, a write that turns NMI on, a line, a run that stops after line 241; a read and a data write refused
+-- with 1, a data write and sprite DMA with 2; a read from other memory; a run of the log, with no early stop
+unfoldable pub one : List Call
+one =
+    readCall own 8194
+    ∷ writeCall own 8192 255
+    ∷ lineCall own
+    ∷ runCall own 1 65535
+    ∷ readCall own 8191
+    ∷ writeCall own 16391 1
+    ∷ writeCall (other short) 8196 1
+    ∷ dmaCall own []
+    ∷ readCall (other (filled 1)) 16383
+    ∷ runCall own 0 18
+    ∷ []
+
+-- twenty lines, and nothing else
+unfoldable pub two : List Call
+two = runCall own 1 20 ∷ []
+
+-- after the reload: the mask's bit 3, lines 260 and 261, then a read of port 4 while drawing
+unfoldable pub further : List Call
+further = writeCall own 8193 8 ∷ runCall own 1 2 ∷ readCall own 8196 ∷ []
+
+pub record Example (a : Places) (b : Bytes) : Type 0 where
+  pub pair : Pair dataCall start one two
+  pub held : Held start
+  pub fit : AllFit one × AllFit two × AllFit further
+  pub numbers : map (λ g. g .answer .number) (trace one start) ≡ 0 ∷ 0 ∷ 0 ∷ 0 ∷ 1 ∷ 1 ∷ 2 ∷ 2 ∷ 0 ∷ 0 ∷ []
+  pub lines : map (λ g. g .answer .lines) (trace one start) ≡ 0 ∷ 0 ∷ 1 ∷ 1 ∷ 0 ∷ 0 ∷ 0 ∷ 0 ∷ 0 ∷ 18 ∷ []
+  pub next-line : end one start .unit .scanline ≡ 260
+  -- the logs leave different records, and the reload makes them equal
+  pub differ : recordOf (end one start .unit) ≡ recordOf (end two start .unit) → ⊥
+  pub equal : Alike (end (reload a b) (end one start)) (end (reload a b) (end two start))
+  -- 4 is met only after it: from the units that it leaves
+  pub drawing : map (λ g. g .answer .number) (trace further (state (end (reload a b) (end one start) .unit) (filled 0))) ≡ 0 ∷ 0 ∷ 4 ∷ []
+  -- the same on the 16-byte record
+  pub record-pair : RecordPair (recordState (recordOf (start .unit)) (start .memory)) one two

@@ -1,0 +1,172 @@
+-- What is proved of the definitions: the statements. proofs/Theorems.antt has the proof of each.
+use mathlib.Core.Path.{_≡_}
+use mathlib.Core.Bool.{true, false}
+use mathlib.Core.List.{List, [], _∷_, _++_}
+use mathlib.Core.Logic.{_⊎_}
+use Prim.Native.Nat.{ℕ, _+_, _*_, _≤_, _<_}
+use lib.ListN.{length}
+use Rattle.model.specs.declared.Ppu.{Ppu}
+use Rattle.model.specs.Unit.{Memory, withCells, withLine, accessMemory, dmaMemory, lineMemory, State, state, zeroUnit, recordLength, isWellFormed, isDrawing}
+use Rattle.model.specs.Record.{at, recordOf}
+use Rattle.model.specs.Address.{withOam, withPalette}
+use Rattle.model.specs.Ports.{portOf}
+use Rattle.model.specs.Calls.{made, loadCall, saved, saveCall, refusal, Lent, own, other, Call, readCall, writeCall, dmaCall, lineCall, runCall, Outcome, outcome, longFor, inRange, blocked, refusalOf, done, onLent, lentOf, given, call, packed, Exported, exported, onRecord, exportedCall}
+use Rattle.model.specs.Reload.{end, total, trace, dataCall, At, Places, Bytes, seven, joined, reload, step, without, Pair, Alike, Within, bytesOnly, Held, LentFits, Fits, AllFit, Needed, endOf}
+use Rattle.model.specs.RecordLog.{RecordState, recordState, recordGiven, recordCall, recordTrace, recordSystem, RecordPair, RecordNeeded, RecordAlike}
+use Rattle.model.specs.Log.{recordKnown, recordCall as recordsCall, playCall, exportedPlay}
+
+-- every number of a list is a byte
+abbrev pub AreBytes : List ℕ → Type 0
+AreBytes l = (k : ℕ) → at l k < 256
+
+-- DEMAND 1. The number of a call is the first of 2, 3, 1, 4 that holds, and 0 if none does; a refused call changes nothing, and its packed
+-- answer is its number
+pub record Refusals : Type 0 where
+  pub number : (c : Call) (s : State) → onLent c s .answer .number ≡ refusalOf c s
+  pub is-2 : (c : Call) (s : State) → longFor c (s .unit) (s .memory) ≡ false → refusalOf c s ≡ 2
+  pub is-3 : (c : Call) (s : State) → longFor c (s .unit) (s .memory) ≡ true → isWellFormed (s .unit) ≡ false → refusalOf c s ≡ 3
+  pub is-1 : (c : Call) (s : State) → longFor c (s .unit) (s .memory) ≡ true → isWellFormed (s .unit) ≡ true → inRange c ≡ false → refusalOf c s ≡ 1
+  pub is-4 : (c : Call) (s : State) → longFor c (s .unit) (s .memory) ≡ true → isWellFormed (s .unit) ≡ true → inRange c ≡ true
+      → isDrawing (s .unit) ≡ true → blocked c ≡ true → refusalOf c s ≡ 4
+  pub is-0 : (c : Call) (s : State) → longFor c (s .unit) (s .memory) ≡ true → isWellFormed (s .unit) ≡ true → inRange c ≡ true
+      → (isDrawing (s .unit) ≡ false) ⊎ (blocked c ≡ false) → refusalOf c s ≡ 0
+  pub refused : (c : Call) (s : State) → (onLent c s .answer .number ≡ 0 → ⊥) → onLent c s ≡ outcome (refusal (onLent c s .answer .number)) s
+  pub exported-refused : (c : Call) (l : List ℕ) (m : Memory) → (onRecord c l m .answer .number ≡ 0 → ⊥) → exportedCall c l m ≡ exported (onRecord c l m .answer .number) l m
+
+-- DEMAND 2, the saved unit. Saved and read back it is the same unit; a well-formed record, read and saved again, is the same bytes;
+-- and no call makes an ill-formed unit of a well-formed one
+pub record RoundTrips : Type 0 where
+  pub unit-back : (u : Ppu) (l : List ℕ) → isWellFormed u ≡ true → length l ≡ recordLength → loadCall (saveCall u l .bytes) ≡ made u
+  pub record-back : (l l′ : List ℕ) → AreBytes l → loadCall l .answer .number ≡ 0 → length l′ ≡ recordLength → saveCall (loadCall l .unit) l′ ≡ saved (made (loadCall l .unit)) l
+  pub stays-formed : (c : Call) (s : State) → isWellFormed (s .unit) ≡ true → isWellFormed (call c s .after .unit) ≡ true
+
+-- WHAT IS NOT LENT to a call is neither read nor touched.
+-- What a call is lent of m, the rest empty: an access all but the line buffer, sprite DMA only OAM, a line or a run all but the palette
+abbrev pub lentTo : Call → Memory → Memory
+lentTo (readCall l a) m = accessMemory (m .cells .left) (m .cells .right) (m .cells .nametables) (m .cells .oam) (m .cells .palette)
+lentTo (writeCall l a b) m = accessMemory (m .cells .left) (m .cells .right) (m .cells .nametables) (m .cells .oam) (m .cells .palette)
+lentTo (dmaCall l p) m = dmaMemory (m .cells .oam)
+lentTo (lineCall l) m = lineMemory (m .cells .left) (m .cells .right) (m .cells .nametables) (m .cells .oam) (m .line)
+lentTo (runCall l why n) m = lineMemory (m .cells .left) (m .cells .right) (m .cells .nametables) (m .cells .oam) (m .line)
+
+-- o, with what was not lent put back from m
+abbrev pub restored : Call → Memory → Memory → Memory
+restored (readCall l a) m o = withLine o (m .line)
+restored (writeCall l a b) m o = withLine o (m .line)
+restored (dmaCall l p) m o = withCells m (withOam (m .cells) (o .cells .oam))
+restored (lineCall l) m o = withCells o (withPalette (o .cells) (m .cells .palette))
+restored (runCall l why n) m o = withCells o (withPalette (o .cells) (m .cells .palette))
+
+abbrev pub restores : Call → Memory → Outcome → Outcome
+restores c m o = outcome (o .answer) (state (o .after .unit) (restored c m (o .after .memory)))
+
+-- a call on m is the call on what it is lent of m, with the rest put back; and so is an exported call
+pub record Frames : Type 0 where
+  pub frame : (c : Call) (u : Ppu) (m : Memory) → onLent c (state u m) ≡ restores c m (onLent c (state u (lentTo c m)))
+  pub exported-frame : (c : Call) (l : List ℕ) (m : Memory)
+      → exportedCall c l m ≡ (let e : Exported = exportedCall c l (lentTo c m) in exported (e .result) (e .bytes) (restored c m (e .memory)))
+
+-- CALLS OF A LOG. Lent the unit's own memory, a call leaves that as the call makes it; lent other memory, it is the call over that, and the
+-- unit's own stays
+pub record Lending : Type 0 where
+  pub lent-of : (l : Lent) (a b n : ℕ) (p : List ℕ)
+      → (lentOf (readCall l a) ≡ l) × (lentOf (writeCall l a b) ≡ l) × (lentOf (dmaCall l p) ≡ l) × (lentOf (lineCall l) ≡ l) × (lentOf (runCall l b n) ≡ l)
+  pub own-memory : (c : Call) (s : State) → lentOf c ≡ own → call c s ≡ (let o : Outcome = onLent c s in given (o .answer) (o .after) (o .after .memory))
+  pub other-memory : (c : Call) (s : State) (m : Memory) → lentOf c ≡ other m
+      → call c s ≡ (let o : Outcome = onLent c (state (s .unit) m) in given (o .answer) (state (o .after .unit) (s .memory)) (o .after .memory))
+  pub own-record : (c : Call) (s : RecordState) → lentOf c ≡ own
+      → recordCall c s ≡ (let e : Exported = exportedCall c (s .bytes) (s .memory) in recordGiven (e .result) (recordState (e .bytes) (e .memory)) (e .memory))
+  pub other-record : (c : Call) (s : RecordState) (m : Memory) → lentOf c ≡ other m
+      → recordCall c s ≡ (let e : Exported = exportedCall c (s .bytes) m in recordGiven (e .result) (recordState (e .bytes) (s .memory)) (e .memory))
+  pub record-answer : (c : Call) (s : RecordState) → recordCall c s .result ≡ packed (recordSystem .reply c s)
+
+-- each call gets the unit and memory as the last one left them: one call is itself, and joined logs are joined traces
+pub record Traces : Type 0 where
+  pub one : (c : Call) (s : State) → (trace (c ∷ []) s ≡ call c s ∷ []) × (end (c ∷ []) s ≡ call c s .after) × (total (c ∷ []) s ≡ call c s .answer .lines)
+  pub joined-trace : (a b : List Call) (s : State) → trace (a ++ b) s ≡ trace a s ++ trace b (end a s)
+  pub joined-end : (a b : List Call) (s : State) → end (a ++ b) s ≡ end b (end a s)
+  pub joined-total : (a b : List Call) (s : State) → total (a ++ b) s ≡ total a s + total b (end a s)
+  pub one-record : (c : Call) (s : RecordState) → (recordTrace (c ∷ []) s ≡ recordCall c s ∷ []) × (endOf recordSystem (c ∷ []) s ≡ recordCall c s .after)
+  pub joined-records : (a b : List Call) (s : RecordState) → recordTrace (a ++ b) s ≡ recordTrace a s ++ recordTrace b (endOf recordSystem a s)
+
+-- data calls are sprite DMA and writes of ports 4 and 7, and no others
+pub record DataCalls : Type 0 where
+  pub data-dma : (l : Lent) (p : List ℕ) → dataCall (dmaCall l p) ≡ true
+  pub data-write : (l : Lent) (a b : ℕ) → (portOf a ≡ 4) ⊎ (portOf a ≡ 7) → dataCall (writeCall l a b) ≡ true
+  pub no-data-write : (l : Lent) (a b : ℕ) → (portOf a ≡ 4 → ⊥) → (portOf a ≡ 7 → ⊥) → dataCall (writeCall l a b) ≡ false
+  pub no-data : (l : Lent) (a why n : ℕ) → (dataCall (readCall l a) ≡ false) × (dataCall (lineCall l) ≡ false) × (dataCall (runCall l why n) ≡ false)
+
+-- bytes are below 256, in a unit's record and in every memory
+pub record HeldBytes : Type 0 where
+  pub below : (l : List ℕ) → bytesOnly l ≡ true → AreBytes l
+  pub all-below : (l : List ℕ) → AreBytes l → bytesOnly l ≡ true
+  pub held : (s : State) → Held s → AreBytes (recordOf (s .unit)) × AreBytes (s .memory .cells .left) × AreBytes (s .memory .cells .right)
+      × AreBytes (s .memory .cells .nametables) × AreBytes (s .memory .cells .oam) × AreBytes (s .memory .cells .palette) × AreBytes (s .memory .line)
+  pub formed : (s : State) → Held s → isWellFormed (s .unit) ≡ true
+
+-- what fits a call: words of 16 bits, bytes, and memory of bytes
+pub record Arguments : Type 0 where
+  pub fits-read : (l : Lent) (a : ℕ) → Fits (readCall l a) → LentFits l × (a < 65536)
+  pub fits-write : (l : Lent) (a b : ℕ) → Fits (writeCall l a b) → LentFits l × (a < 65536) × (b < 256)
+  pub fits-dma : (l : Lent) (p : List ℕ) → Fits (dmaCall l p) → LentFits l × AreBytes p
+  pub fits-line : (l : Lent) → Fits (lineCall l) → LentFits l
+  pub fits-run : (l : Lent) (why n : ℕ) → Fits (runCall l why n) → LentFits l × (why < 2) × (n < 65536)
+  pub fits-lent : (m : Memory) → LentFits (other m) → Held (state zeroUnit m)
+  pub fits-all : (c : Call) (cs : List Call) → AllFit (c ∷ cs) → Fits c × AllFit cs
+
+-- step k can be spared: from units, memories and logs that bytes can hold the reload without it makes the units equal
+abbrev pub Spared : ℕ → Type 0
+Spared k =
+    (s : State) (la lb : List Call) → Pair dataCall s la lb → Held s → AllFit la → AllFit lb → (pa pb : Places) (b : Bytes) → AllFit (joined (seven pa b)) → AllFit (joined (seven pb b))
+    → recordOf (end (without k pa b) (end la s) .unit) ≡ recordOf (end (without k pb b) (end lb s) .unit)
+
+-- DEMAND 3. After the reload units and memories are equal, and all that follows; and none of its seven steps can be spared. The same of the
+-- exported calls, on records
+pub record ReloadTheorem : Type 0 where
+  pub demand3 : (s : State) (la lb : List Call) → Pair dataCall s la lb → (pa pb : Places) (b : Bytes) → Alike (end (reload pa b) (end la s)) (end (reload pb b) (end lb s))
+  pub record-demand3 : (s : RecordState) (la lb : List Call) → RecordPair s la lb → (pa pb : Places) (b : Bytes)
+      → RecordAlike (endOf recordSystem (reload pa b) (endOf recordSystem la s)) (endOf recordSystem (reload pb b) (endOf recordSystem lb s))
+  pub needed : (k : ℕ) → k < 7 → Needed k
+  pub record-needed : (k : ℕ) → k < 7 → RecordNeeded k
+  pub not-spared : (k : ℕ) → k < 7 → Spared k → ⊥
+  pub alike : (s t : State) → Alike s t → s ≡ t
+  pub record-alike : (s t : RecordState) → RecordAlike s t → s ≡ t
+  -- within lines 240 to 260 nothing is drawn, so that no call of such a log is refused with 4
+  pub never-4 : (c : Call) (s : State) → Within s → call c s .answer .number ≡ 4 → ⊥
+
+-- a reload's calls may be at any mirror of their port
+pub record Mirrors : Type 0 where
+  pub every-mirror : (a : ℕ) → 8192 ≤ a → a < 16384 → (m : At (portOf a)) × (m .addr ≡ a)
+
+-- the reload has seven steps, in nine calls; without step k it is what stands before that and what stands behind
+pub record Steps (a : Places) (b : Bytes) : Type 0 where
+  pub seven-steps : length (seven a b) ≡ 7
+  pub nine-calls : length (reload a b) ≡ 9
+  pub left-out : (k : ℕ) → k < 7 → (front : List Call) × (back : List Call) × (reload a b ≡ front ++ (step k a b ++ back)) × (without k a b ≡ front ++ back)
+
+-- THE RECORD AT THE FRONT OF A LOG is played as its call; 5 before all other numbers where it is unknown or cut short. For C the same, on a
+-- saved unit's record, and what that makes of a unit's record is what the call makes of the unit, saved
+pub record PlayedRecords : Type 0 where
+  pub known : (k h l b : ℕ) (r : List ℕ) (s : State) → recordKnown k b ≡ true → playCall (k ∷ h ∷ l ∷ b ∷ r) s ≡ onLent (recordsCall k (h * 256 + l) b) s
+  pub unknown : (k h l b : ℕ) (r : List ℕ) (s : State) → recordKnown k b ≡ false → playCall (k ∷ h ∷ l ∷ b ∷ r) s ≡ outcome (refusal 5) s
+  pub cut-short : (log : List ℕ) (s : State) → length log < 4 → playCall log s ≡ outcome (refusal 5) s
+  pub exported-known : (k h l b : ℕ) (r u : List ℕ) (m : Memory) → recordKnown k b ≡ true → exportedPlay (k ∷ h ∷ l ∷ b ∷ r) u m ≡ exportedCall (recordsCall k (h * 256 + l) b) u m
+  pub exported-unknown : (k h l b : ℕ) (r u : List ℕ) (m : Memory) → recordKnown k b ≡ false → exportedPlay (k ∷ h ∷ l ∷ b ∷ r) u m ≡ exported 5 u m
+  pub exported-cut : (log u : List ℕ) (m : Memory) → length log < 4 → exportedPlay log u m ≡ exported 5 u m
+  pub exported-play : (log : List ℕ) (u : Ppu) (m : Memory) → isWellFormed u ≡ true
+      → exportedPlay log (recordOf u) m ≡ (let o : Outcome = playCall log (state u m) in exported (packed (o .answer)) (recordOf (o .after .unit)) (o .after .memory))
+  pub runs-on : (h l : ℕ) → recordsCall 2 (h * 256 + l) 0 ≡ runCall own 0 (h * 256 + l)
+
+pub record Theorems : Type 0 where
+  pub refusals : Refusals
+  pub round-trips : RoundTrips
+  pub frames : Frames
+  pub lending : Lending
+  pub traces : Traces
+  pub data-calls : DataCalls
+  pub held-bytes : HeldBytes
+  pub arguments : Arguments
+  pub reload-theorem : ReloadTheorem
+  pub mirrors : Mirrors
+  pub steps : (a : Places) (b : Bytes) → Steps a b
+  pub played-records : PlayedRecords
