@@ -1,17 +1,14 @@
 /* Plays a log of accesses line by line and keeps the picture, so that a viewer can stop after any line.
 
-   A log is a row of records of four bytes: kind, high, low, last. With address = 256 x high + low, kind 0 reads the address (last is 0),
-   kind 1 writes last to it, kind 2 runs 256 x high + low lines without early stop (last is 0). It starts from a fresh unit, board 9, all
-   memory zero, goes on after a refusal, and ends after a record that is none of these or is cut short. */
+   A log is a row of records of four bytes, which ppu.h describes and ppu_play plays. It starts from a fresh unit, board 9, all memory zero,
+   goes on after a refusal, and ends after a record that is none or is cut short (PPU_BAD_REQUEST). */
 #ifndef PLAY_H
 #define PLAY_H
 
 #include <ppu.h>
 #include <string.h>
 
-enum { PICTURE_WIDTH = PPU_LINE_LENGTH, PICTURE_HEIGHT = 240, RECORD_LENGTH = 4 };
-enum { READ, WRITE, RUN }; /* a record's kind */
-enum { BAD_RECORD = 5 };   /* the number of the refusal that ends a log */
+enum { PICTURE_WIDTH = PPU_LINE_LENGTH, PICTURE_HEIGHT = 240 };
 
 typedef struct {
     uint8_t unit[PPU_RECORD_LENGTH], left[PPU_PATTERN_LENGTH], right[PPU_PATTERN_LENGTH], nametables[PPU_NAMETABLE_LENGTH];
@@ -19,9 +16,9 @@ typedef struct {
     const uint8_t *log;
     size_t length;                 /* of the log, in bytes */
     size_t records;                /* those begun; the last of them is `record`, filled up with zeros if it is cut short */
-    uint8_t record[RECORD_LENGTH];
-    unsigned lines_left;           /* lines that it has still to run */
-    uint64_t answer;               /* of the last call, or BAD_RECORD */
+    uint8_t record[PPU_LOG_RECORD_LENGTH];
+    uint32_t lines_left;           /* lines that it has still to run */
+    uint64_t answer;               /* of the last call */
     unsigned refusal;              /* the number of the last refusal, 0 if there was none, */
     size_t refused;                /* and which record it was, counted from 1 */
     unsigned long pictures;        /* drawn whole */
@@ -30,13 +27,11 @@ typedef struct {
 
 static inline unsigned play_word(const Play *p, int at) { return p->unit[at] + 256u * p->unit[at + 1]; }
 
-static inline unsigned play_address(const Play *p) { return 256u * p->record[1] + p->record[2]; }
-
-static inline size_t play_records(const Play *p) { return (p->length + RECORD_LENGTH - 1) / RECORD_LENGTH; }
+static inline size_t play_records(const Play *p) { return (p->length + PPU_LOG_RECORD_LENGTH - 1) / PPU_LOG_RECORD_LENGTH; }
 
 static inline int play_ended(const Play *p)
 {
-    return ppu_number(p->answer) == BAD_RECORD || (p->records == play_records(p) && p->lines_left == 0);
+    return ppu_number(p->answer) == PPU_BAD_REQUEST || (p->records == play_records(p) && p->lines_left == 0);
 }
 
 /* What a call answers. A refusal is remembered: the log goes on after it. */
@@ -57,27 +52,20 @@ static inline void play_start(Play *p, const uint8_t *log, size_t length)
     play_answer(p, ppu_fresh(p->unit, sizeof p->unit, PPU_VERTICAL | PPU_WRITABLE));
 }
 
-/* The next record: an access is made, a run only begun. A run of no line tells the NMI level. */
+/* The next record, played whole by the library: it knows what a record asks for. A run is then taken back, so that play_line can go through
+   its lines one at a time: it has changed nothing but the unit's record and the line buffer, which the lines fill again. */
 static inline void play_record(Play *p)
 {
-    size_t at = p->records++ * RECORD_LENGTH, rest = p->length - at;
-    memset(p->record, 0, RECORD_LENGTH);
-    memcpy(p->record, p->log + at, rest < RECORD_LENGTH ? rest : RECORD_LENGTH);
-    unsigned kind = p->record[0], last = p->record[3];
-    uint16_t address = (uint16_t)play_address(p);
-    if (rest < RECORD_LENGTH || kind > RUN || (kind != WRITE && last != 0)) {
-        play_answer(p, BAD_RECORD);
-    } else if (kind == READ) {
-        play_answer(p, ppu_read(p->unit, sizeof p->unit, address, p->left, sizeof p->left, p->right, sizeof p->right, p->nametables,
-                                sizeof p->nametables, p->oam, sizeof p->oam, p->palette, sizeof p->palette));
-    } else if (kind == WRITE) {
-        play_answer(p, ppu_write(p->unit, sizeof p->unit, address, (uint8_t)last, p->left, sizeof p->left, p->right, sizeof p->right,
-                                 p->nametables, sizeof p->nametables, p->oam, sizeof p->oam, p->palette, sizeof p->palette));
-    } else {
-        p->lines_left = address;
-        play_answer(p, ppu_run(p->unit, sizeof p->unit, 0, p->left, sizeof p->left, p->right, sizeof p->right, p->nametables,
-                               sizeof p->nametables, p->oam, sizeof p->oam, p->line, sizeof p->line));
-    }
+    size_t at = p->records++ * PPU_LOG_RECORD_LENGTH, rest = p->length - at;
+    uint8_t before[PPU_RECORD_LENGTH];
+    memset(p->record, 0, sizeof p->record);
+    memcpy(p->record, p->log + at, rest < sizeof p->record ? rest : sizeof p->record);
+    memcpy(before, p->unit, sizeof before);
+    play_answer(p, ppu_play(p->unit, sizeof p->unit, p->log + at, rest, p->left, sizeof p->left, p->right, sizeof p->right, p->nametables,
+                            sizeof p->nametables, p->oam, sizeof p->oam, p->palette, sizeof p->palette, p->line, sizeof p->line));
+    p->lines_left = ppu_lines(p->answer);
+    if (p->lines_left)
+        memcpy(p->unit, before, sizeof before);
 }
 
 /* A line's colours are looked up at once: the palette and the mask may change before the next line. Mask bit 0 leaves only the greys. */

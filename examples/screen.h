@@ -106,13 +106,14 @@ static inline void screen_unit(Screen *s, int row, const Play *p)
 static inline void screen_record(Screen *s, int row, const Play *p)
 {
     static const char *const reasons[] = { "", "ADDRESS", "LENGTH", "UNIT", "DRAWING", "RECORD" };
-    unsigned number = ppu_number(p->answer), kind = p->record[0], address = play_address(p);
+    enum { READ, WRITE, RUN }; /* kinds */
+    unsigned number = ppu_number(p->answer), kind = p->record[0], address = 256u * p->record[1] + p->record[2];
     if (p->records == 0)
         screen_text(s, 0, row, PLAIN, "FRESH UNIT");
-    else if (number == BAD_RECORD)
+    else if (number == PPU_BAD_REQUEST)
         screen_text(s, 0, row, PLAIN, "$%02X %02X %02X %02X", kind, p->record[1], p->record[2], p->record[3]);
     else if (kind == RUN)
-        screen_text(s, 0, row, PLAIN, "RUN %u LINES, %u LEFT", address, p->lines_left);
+        screen_text(s, 0, row, PLAIN, "RUN %u LINES, %u LEFT", address, (unsigned)p->lines_left);
     else if (kind == WRITE)
         screen_text(s, 0, row, PLAIN, "WRITE $%02X TO $%04X", p->record[3], address);
     else

@@ -262,6 +262,39 @@ picture_refusals() {
     echo "  ppu-picture: refusals by record and number, what goes on and what ends, --strict"
 }
 
+# A record that is none ends the play where it stands, and 5 comes before the 1 or 4 that some of these would have: status 4, its place and why,
+# the pictures before it and none behind it. ppu-log goes on with the text, without answers.
+picture_bad_record() {
+    local raw why status before=('RUN 262' 'W 2001 08' 'RUN 262') behind=('R 1FFF' 'RUN 262')
+    log_of bad.log "${before[@]}"
+    ppu-picture -o before bad.log
+    while IFS='|' read -r raw why; do
+        log_of bad.log "${before[@]}" "RAW $raw" "${behind[@]}"
+        status=0
+        ppu-picture --summary -o drawn bad.log >sum 2>errors || status=$?
+        [ "$status" -eq 4 ] || fail "the bad record $raw: status $status"
+        text "ppu-picture: bad.log: record 4: refused 5: $why" >expected
+        same "the bad record $raw" errors expected
+        text 'pictures 2 of 2, records 4, refused 1:0 2:0 3:0 4:0 5:1' >expected
+        same "the sum up to the bad record $raw" sum expected
+        diff -r before drawn || fail "the bad record $raw: other pictures than those before it"
+        text 'RUN 262  # line 0 nmi 0' 'W 2001 08' 'RUN 262  # line 0 nmi 0' "RAW $raw  # refused 5" "${behind[@]}" >expected
+        ppu-log show --answers bad.log >shown
+        same "the text around the bad record $raw" shown expected
+        passed 2
+        rm -r drawn
+    done <<'RECORDS'
+03 20 02 00|unknown kind $03, not 0 read, 1 write or 2 run
+FF 00 01 FF|unknown kind $FF, not 0 read, 1 write or 2 run
+00 20 02 01|the last byte of a read is $01, not 0
+00 20 07 80|the last byte of a read is $80, not 0
+00 40 00 FF|the last byte of a read is $FF, not 0
+02 01 06 01|the last byte of a run is $01, not 0
+RECORDS
+    rm -r before bad.log sum errors expected shown
+    echo "  ppu-picture, ppu-log: a record that is none within a log ends its play there"
+}
+
 picture_errors() {
     local log=$root/examples/picture.log
     : >empty.log
@@ -476,7 +509,7 @@ log_errors
 log_interrupted
 from_the_tree ppu-log
 if [ "$no_libpng" -eq 0 ]; then
-    for part in picture_captures picture_options picture_lines picture_runs picture_refusals picture_errors picture_full_disk \
+    for part in picture_captures picture_options picture_lines picture_runs picture_refusals picture_bad_record picture_errors picture_full_disk \
         batch_runs batch_shares batch_failures batch_errors; do
         $part
     done

@@ -50,10 +50,10 @@ typedef struct {
 
 /* LOG TO TEXT */
 
-static void print_record(FILE *out, const Record *record)
+static void print_record(FILE *out, const Record *record, Machine *machine)
 {
     const uint8_t *bytes = record->bytes;
-    if (!well_formed(record)) {
+    if (!is_record(machine, record)) {
         fputs("RAW", out);
         for (size_t i = 0; i < record->length; i++)
             fprintf(out, " %02X", bytes[i]);
@@ -85,11 +85,11 @@ static void show(FILE *in, FILE *out, const Options *options)
     if (start(&machine, options->board))
         give_up(BAD_USAGE, "--board %u: not a board byte, 0 to 3 or 8 to 11 is", options->board);
     while (next_record(in, &record)) {
-        print_record(out, &record);
+        print_record(out, &record, &machine);
         if (playing) {
             uint64_t answer = play(&machine, &record);
             print_answer(out, &record, &machine, answer);
-            playing = ppu_number(answer) != BAD_RECORD;
+            playing = ppu_number(answer) != PPU_BAD_REQUEST;
         }
         fputc('\n', out);
     }
@@ -140,7 +140,7 @@ static unsigned decimal(const char *word)
 
 static void set_record(Record *record, unsigned kind, unsigned number, unsigned last)
 {
-    record->length = 4;
+    record->length = sizeof record->bytes;
     record->bytes[0] = (uint8_t)kind;
     record->bytes[1] = (uint8_t)(number / 256);
     record->bytes[2] = (uint8_t)(number % 256);
@@ -152,7 +152,7 @@ static void set_raw(Record *record, char *const *words, int count)
     record->length = (size_t)count;
     for (int i = 0; i < count; i++)
         record->bytes[i] = (uint8_t)byte_of(words[i]);
-    if (count < 4)
+    if (record->length < sizeof record->bytes)
         text.cut = text.number;
 }
 

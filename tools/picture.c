@@ -81,10 +81,15 @@ typedef struct {
     Form form;
 } Options;
 
+/* a line as it was drawn, with what its colours hang on: palette RAM and mask may change before the next */
+typedef struct {
+    uint8_t numbers[PPU_LINE_LENGTH], palette[PPU_PALETTE_LENGTH], mask;
+} Line;
+
 /* what the play has come to */
 static struct {
     Options options;
-    uint8_t drawing[PICTURE_SIZE], whole[PICTURE_SIZE]; /* the picture being drawn; with --last, the last that was whole */
+    Line drawing[PICTURE_HEIGHT], whole[PICTURE_HEIGHT]; /* the picture being drawn; with --last, the last that was whole */
     unsigned long pictures, written, refused[REFUSALS];
     Record record;
     long long size; /* of the log; -1 if it is no plain file */
@@ -136,14 +141,49 @@ static void make_folder(void)
         give_up(BAD_FILE, "%s: the folder cannot be made: %s", output, strerror(errno));
 }
 
-/* A picture that is the same as the one before has the same PNG: games stand still often. */
-static void write_picture(const uint8_t *picture, unsigned long number)
+/* what a line's numbers show: the palette's colours, or grey levels */
+static void set_shown(uint8_t *shown, const Line *line)
 {
-    static uint8_t before[PICTURE_SIZE];
+    uint8_t grey = line->mask & 1 ? 0x30 : 0x3F;
+    for (unsigned i = 0; i < sizeof line->palette; i++)
+        shown[i] = (uint8_t)(at.options.form.palette ? line->palette[i] & grey : (i ? 69 + 6 * i : 0));
+}
+
+static int same_colours(const Line *line, const Line *other)
+{
+    return line->mask == other->mask && memcmp(line->palette, other->palette, sizeof line->palette) == 0;
+}
+
+/* four pixels at a time are quicker */
+static void colour_line(uint8_t *row, const uint8_t *numbers, const uint8_t *shown)
+{
+    for (int x = 0; x < PICTURE_WIDTH; x += 4) {
+        row[x] = shown[numbers[x]];
+        row[x + 1] = shown[numbers[x + 1]];
+        row[x + 2] = shown[numbers[x + 2]];
+        row[x + 3] = shown[numbers[x + 3]];
+    }
+}
+
+static void colour(uint8_t *picture, const Line *lines)
+{
+    uint8_t shown[256] = { 0 }; /* for any byte, though numbers are 0 to 31 */
+    for (int y = 0; y < PICTURE_HEIGHT; y++) {
+        if (y == 0 || !same_colours(&lines[y], &lines[y - 1]))
+            set_shown(shown, &lines[y]);
+        colour_line(picture + PICTURE_WIDTH * y, lines[y].numbers, shown);
+    }
+}
+
+/* A picture that is the same as the one before has the same PNG: games stand still often. */
+static void write_picture(const Line *lines, unsigned long number)
+{
+    static uint8_t picture[PICTURE_SIZE], before[PICTURE_SIZE];
     static const uint8_t *png;
     static size_t length;
     char name[NAME_LENGTH];
     make_folder();
+    colour(picture, lines);
     if (!png || memcmp(before, picture, sizeof before)) {
         png = encode(picture, &at.options.form, &length);
         memcpy(before, picture, sizeof before);
@@ -176,21 +216,13 @@ static void show_progress(void)
     bar_shown = 1;
 }
 
-/* the row of a line in the picture: grey levels of the numbers, or the palette's colours */
-static void copy_line(uint8_t *row, const Machine *machine)
-{
-    uint8_t shown[PPU_PALETTE_LENGTH];
-    uint8_t grey = machine->unit[PPU_AT_MASK] & 1 ? 0x30 : 0x3F;
-    for (unsigned i = 0; i < sizeof shown; i++)
-        shown[i] = (uint8_t)(at.options.form.palette ? machine->palette[i] & grey : (i ? 69 + 6 * i : 0));
-    for (int x = 0; x < PICTURE_WIDTH; x++)
-        row[x] = shown[machine->line[x] % sizeof shown];
-}
-
 static void line_drawn(void *context, const Machine *machine, unsigned line)
 {
+    Line *to = &at.drawing[line];
     (void)context;
-    copy_line(at.drawing + PICTURE_WIDTH * line, machine);
+    memcpy(to->numbers, machine->line, sizeof to->numbers);
+    memcpy(to->palette, machine->palette, sizeof to->palette);
+    to->mask = machine->unit[PPU_AT_MASK];
     if (line != PICTURE_HEIGHT - 1)
         return;
     at.pictures++;
@@ -213,7 +245,7 @@ static void report_refusal(unsigned number)
 {
     char why[200];
     at.refused[number < REFUSALS ? number : 0]++;
-    if (all_refused() > SHOWN_REFUSALS && number != BAD_RECORD)
+    if (all_refused() > SHOWN_REFUSALS && number != PPU_BAD_REQUEST)
         return;
     explain(why, sizeof why, &at.record, number);
     say("%s: record %lu: refused %u: %s", input_name(at.options.log), at.record.number, number, why);
@@ -242,7 +274,7 @@ static void play_log(Machine *machine)
     FILE *log = open_input(at.options.log);
     at.size = fstat(fileno(log), &status) == 0 && S_ISREG(status.st_mode) ? (long long)status.st_size : -1;
     unsigned number = 0;
-    while (number != BAD_RECORD && next_record(log, &at.record)) {
+    while (number != PPU_BAD_REQUEST && next_record(log, &at.record)) {
         number = ppu_number(play(machine, &at.record));
         if (number)
             report_refusal(number);
@@ -256,7 +288,7 @@ static void play_log(Machine *machine)
 static int report_end(const Machine *machine)
 {
     const char *log = input_name(at.options.log);
-    if (at.refused[BAD_RECORD])
+    if (at.refused[PPU_BAD_REQUEST])
         return BAD_LOG;
     if (at.written)
         return at.options.strict && all_refused() ? REFUSED : DONE;

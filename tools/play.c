@@ -20,54 +20,48 @@ int next_record(FILE *log, Record *record)
 
 unsigned middle(const Record *record) { return record->bytes[1] * 256u + record->bytes[2]; }
 
-int well_formed(const Record *record)
-{
-    unsigned kind = record->bytes[0];
-    return record->length == sizeof record->bytes && (kind == WRITE || ((kind == READ || kind == RUN) && record->bytes[3] == 0));
-}
-
 unsigned next_line(const Machine *machine) { return machine->unit[PPU_AT_NEXT_LINE] + 256u * machine->unit[PPU_AT_NEXT_LINE + 1]; }
 
-static uint64_t read_port(Machine *m, uint16_t address)
+/* unit_length is the unit's, or 0 to play nothing */
+static uint64_t call(Machine *m, size_t unit_length, const Record *record)
 {
-    return ppu_read(m->unit, sizeof m->unit, address, m->left, sizeof m->left, m->right, sizeof m->right, m->nametables,
-                    sizeof m->nametables, m->oam, sizeof m->oam, m->palette, sizeof m->palette);
+    return ppu_play(m->unit, unit_length, record->bytes, record->length, m->left, sizeof m->left, m->right, sizeof m->right, m->nametables,
+                    sizeof m->nametables, m->oam, sizeof m->oam, m->palette, sizeof m->palette, m->line, sizeof m->line);
 }
 
-static uint64_t write_port(Machine *m, uint16_t address, uint8_t byte)
+/* 5 is tested before 2: lent a unit of no bytes, the library refuses a record with 2 and what is none with 5. */
+int is_record(Machine *machine, const Record *record) { return ppu_number(call(machine, 0, record)) != PPU_BAD_REQUEST; }
+
+static void hand_on(Machine *m, unsigned line)
 {
-    return ppu_write(m->unit, sizeof m->unit, address, byte, m->left, sizeof m->left, m->right, sizeof m->right, m->nametables,
-                     sizeof m->nametables, m->oam, sizeof m->oam, m->palette, sizeof m->palette);
+    if (line < PICTURE_LINES)
+        m->drawn(m->context, m, line);
 }
 
-/* Line by line, since ppu_run stops after line 241 and keeps only its last line; it answers for a run of no lines. */
-static uint64_t run(Machine *m, unsigned lines)
+/* ppu_play leaves only the last line of a run. A run changes nothing but the unit's record and the line buffer: so ppu_line, from the record
+   as it was before, gives each of the lines exactly, and leaves what the run left. */
+static void run_again(Machine *m, const uint8_t *before, uint32_t lines)
 {
-    uint64_t answer = ppu_run(m->unit, sizeof m->unit, 0, m->left, sizeof m->left, m->right, sizeof m->right, m->nametables,
-                              sizeof m->nametables, m->oam, sizeof m->oam, m->line, sizeof m->line);
-    for (; lines && !ppu_number(answer); lines--) {
+    memcpy(m->unit, before, sizeof m->unit);
+    for (; lines; lines--) {
         unsigned line = next_line(m);
-        answer = ppu_line(m->unit, sizeof m->unit, m->left, sizeof m->left, m->right, sizeof m->right, m->nametables,
-                          sizeof m->nametables, m->oam, sizeof m->oam, m->line, sizeof m->line);
-        if (line < PICTURE_LINES && m->drawn)
-            m->drawn(m->context, m, line);
+        ppu_line(m->unit, sizeof m->unit, m->left, sizeof m->left, m->right, sizeof m->right, m->nametables, sizeof m->nametables, m->oam,
+                 sizeof m->oam, m->line, sizeof m->line);
+        hand_on(m, line);
     }
-    return answer;
 }
 
 uint64_t play(Machine *machine, const Record *record)
 {
-    if (!well_formed(record))
-        return BAD_RECORD;
-    uint16_t number = (uint16_t)middle(record);
-    switch (record->bytes[0]) {
-    case READ:
-        return read_port(machine, number);
-    case WRITE:
-        return write_port(machine, number, record->bytes[3]);
-    default:
-        return run(machine, number);
-    }
+    uint8_t before[PPU_RECORD_LENGTH];
+    unsigned line = next_line(machine);
+    memcpy(before, machine->unit, sizeof before);
+    uint64_t answer = call(machine, sizeof machine->unit, record);
+    if (machine->drawn && ppu_lines(answer) == 1)
+        hand_on(machine, line);
+    else if (machine->drawn && ppu_lines(answer))
+        run_again(machine, before, ppu_lines(answer));
+    return answer;
 }
 
 static void explain_record(char *text, size_t size, const Record *record)
@@ -97,7 +91,7 @@ void explain(char *text, size_t size, const Record *record, unsigned number)
     case PPU_DRAWING:
         snprintf(text, size, "%s of port %u while drawing", record->bytes[0] == READ ? "read" : "write", middle(record) % 8);
         break;
-    case BAD_RECORD:
+    case PPU_BAD_REQUEST:
         explain_record(text, size, record);
         break;
     default:

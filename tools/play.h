@@ -5,15 +5,14 @@
 #include <stdio.h>
 #include "ppu.h"
 
-#define BAD_RECORD 5     /* refused: an unknown kind, a required zero byte not zero, a record cut short */
-#define REFUSALS 6       /* numbers 0 to 5 */
+#define REFUSALS 6 /* numbers 0 to 5 */
 #define PICTURE_LINES 240
 
-enum { READ, WRITE, RUN };
+enum { READ, WRITE, RUN }; /* kinds, for the text of a record; the library plays it */
 
 /* four bytes: kind, high byte, low byte, last byte; fewer if the log ends inside it */
 typedef struct {
-    uint8_t bytes[4];
+    uint8_t bytes[PPU_LOG_RECORD_LENGTH];
     size_t length;
     unsigned long number; /* counted from 1 */
 } Record;
@@ -39,10 +38,10 @@ int next_record(FILE *log, Record *record);
 /* The two bytes in the middle: an address, or a number of lines. */
 unsigned middle(const Record *record);
 
-/* Whole, of a known kind, the last byte of a read and of a run 0. */
-int well_formed(const Record *record);
+/* Whether the library takes it for a record: whole, of a known kind, the last byte of a read and of a run 0. Nothing is played. */
+int is_record(Machine *machine, const Record *record);
 
-/* Plays a record as the player does: a run goes on over line 241. The answer of a record that is not well formed is BAD_RECORD. */
+/* Plays a record; the answer is ppu_play's. Lines are run a second time only where somebody looks. */
 uint64_t play(Machine *machine, const Record *record);
 
 /* The line that comes next. */
