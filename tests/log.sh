@@ -1,5 +1,6 @@
 #!/usr/bin/env bash
-# The player on logs: the document's example, logs of every small length, blocks cut at every offset, refusals, outputs that cannot be written.
+# The player on logs: the document's example, logs of every small length, blocks cut at every offset, reads of one byte, refusals, a bad record around
+# each block boundary, outputs that cannot be written.
 # tests/log.sh speed plays ten million access records instead, to standard output's end, and prints seconds and memory (it needs GNU time).
 set -euo pipefail
 cd "$(dirname "$0")/.."
@@ -34,6 +35,20 @@ repeated() {
 plays() {
     "$player" <"$out/log" >"$out/printed"
     cmp -s "$out/printed" "$out/expected" || fail "$1: printed $(head -c 200 "$out/printed" | tr '\n' '/'), not $(head -c 200 "$out/expected" | tr '\n' '/')"
+}
+
+# in_reads NAME SIZE..: the same where the log comes in reads of these sizes, then the rest. The player may end before it has read all
+in_reads() {
+    local name=$1 size
+    shift
+    {
+        for size; do
+            dd bs="$size" count=1 status=none || true
+            sleep 0.005
+        done
+        cat || true
+    } <"$out/log" 2>"$out/errors" | "$player" >"$out/printed"
+    cmp -s "$out/printed" "$out/expected" || fail "$name, in reads of $*: printed $(tail -n 3 "$out/printed" | tr '\n' '/'), not $(tail -n 3 "$out/expected" | tr '\n' '/')"
 }
 
 ./play </dev/null >"$out/printed"
@@ -104,6 +119,61 @@ for record in 03200000 ff200000 00200201 02010601 00400001 03400000; do
     bytes 00200200 "$record" 00200200 >"$out/log"
     printf '00\nrefused 5\n' >"$out/expected"
     plays "the record $record"
+done
+
+# refusal 5 ends the play wherever its record stands: nothing behind it is played, neither a cut record nor 6,000 reads; around one and two blocks
+repeated 80000 00200200 >"$out/reads"
+repeated 60000 30300a >"$out/lines"
+# refused_at N RECORD TAIL: N reads, this record, then so many bytes of reads
+refused_at() {
+    { head -c $((4 * $1)) "$out/reads"; bytes "$2"; head -c "$3" "$out/reads"; } >"$out/log"
+    { head -c $((3 * $1)) "$out/lines"; echo "refused 5"; } >"$out/expected"
+}
+per=$((block / 4))
+for n in 0 1 $(seq $((per - 2)) $((per + 2))) $(seq $((2 * per - 2)) $((2 * per + 2))); do
+    for tail in 0 1 4 $((block + 1)) 24000; do
+        refused_at "$n" 03200000 "$tail"
+        plays "the record 03200000 after $n reads, $tail bytes behind it"
+    done
+    refused_at "$n" 00200201 24000
+    plays "the record 00200201 after $n reads"
+done
+# the same in two reads and more, cut before, in and behind the record
+for n in 0 $((per - 1)) "$per" $((per + 1)) $((2 * per - 1)) $((2 * per)) $((2 * per + 1)); do
+    refused_at "$n" 03200000 24000
+    for cut in 1 2 3 4 5; do
+        in_reads "a bad record after $n reads" $((4 * n + cut))
+    done
+    refused_at "$n" 03200000 1
+    in_reads "a bad record after $n reads and one byte" $((4 * n + 4))
+done
+# and where the input stays open
+mkfifo "$out/open"
+exec 3<>"$out/open"
+bytes 00200200 03200000 >&3
+timeout 5 "$player" <"$out/open" >"$out/printed" || fail "the player reads on after refused 5"
+[ "$(tr '\n' '/' <"$out/printed")" = "00/refused 5/" ] || fail "refused 5, the input open"
+exec 3>&-
+
+# reads of one byte do not end the log: the example, small logs, and the bytes behind a block
+cp examples/paper.log "$out/log"
+printf 'line 0 nmi 0\n00\n42\n02\nrefused 1\n' >"$out/expected"
+in_reads "the example byte by byte" $(printf '1 %.0s' $(seq 40))
+for n in $(seq 1 9); do
+    head -c "$n" "$out/reads" >"$out/log"
+    head -c $((n / 4 * 3)) "$out/lines" >"$out/expected"
+    [ $((n % 4)) -eq 0 ] || echo "refused 5" >>"$out/expected"
+    in_reads "a log of $n bytes" $(printf '1 %.0s' $(seq "$n"))
+done
+for n in "$block" $((2 * block)); do
+    head -c $((n + 8)) "$out/reads" >"$out/log"
+    head -c $(((n + 8) / 4 * 3)) "$out/lines" >"$out/expected"
+    in_reads "a log of $n bytes and 8" "$n" 1 1 1 1
+    in_reads "a log of $n bytes and 8" $((n + 1))
+    in_reads "a log of $n bytes and 8" 1 "$n" 1
+    head -c $((n + 1)) "$out/reads" >"$out/log"
+    { head -c $((n / 4 * 3)) "$out/lines"; echo "refused 5"; } >"$out/expected"
+    in_reads "a log of $n bytes and one" "$n"
 done
 
 # capital letters

@@ -125,4 +125,10 @@ static inline uint64_t run_lines(Machine *m, unsigned most)
                    m->length[NAMETABLES], m->oam, m->length[OAM], m->line, m->length[LINE]);
 }
 
+static inline uint64_t play_log(Machine *m, const uint8_t *log, size_t length)
+{
+    return ppu_play(m->unit, m->length[UNIT], log, length, m->left, m->length[LEFT], m->right, m->length[RIGHT], m->nametables,
+                    m->length[NAMETABLES], m->oam, m->length[OAM], m->palette, m->length[PALETTE], m->line, m->length[LINE]);
+}
+
 #endif

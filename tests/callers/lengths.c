@@ -5,8 +5,10 @@
        lengths ROUNDS SEED heap     slices in blocks of exactly their length, for valgrind and AddressSanitizer
 
    A call with a wrong length must answer 2 and change nothing; one with the right lengths must not answer 2; what is
-   lent to be looked at is never changed. LINES says that the archive has ppu_line and ppu_run. With REACH_READ or
-   REACH_WRITE the test itself goes one byte beyond a slice, as a faulty library would, to show that this is noticed. */
+   lent to be looked at is never changed. A log without a whole and good record at its front must answer 5; with one, the
+   lengths that count are those of the call that the record stands for. LINES says that the archive has ppu_line, ppu_run
+   and ppu_play. With REACH_READ or REACH_WRITE the test itself goes one byte beyond a slice, as a faulty library would, to
+   show that this is noticed. */
 #define _DEFAULT_SOURCE
 #include <stdio.h>
 #include <stdlib.h>
@@ -14,16 +16,16 @@
 #include <sys/mman.h>
 #include "ppu.h"
 
-enum { UNIT, LEFT, RIGHT, NAMETABLES, OAM, PALETTE, LINE, PAGE, MEMORIES };
-enum { FRESH, READ, WRITE, DMA, RUN_LINE, RUN_MANY, KINDS };
+enum { UNIT, LEFT, RIGHT, NAMETABLES, OAM, PALETTE, LINE, PAGE, LOG, MEMORIES };
+enum { FRESH, READ, WRITE, DMA, RUN_LINE, RUN_MANY, PLAY, KINDS };
 enum { LONGEST = 5000, ROOM = 8192, BARRIER = 4096 };
 
-static const size_t right_length[MEMORIES] = {16, 4096, 4096, 2048, 256, 32, 256, 256};
-static const char *const kind_name[KINDS] = {"fresh", "read", "write", "dma", "line", "run"};
+static const size_t right_length[MEMORIES] = {16, 4096, 4096, 2048, 256, 32, 256, 256, 4};
+static const char *const kind_name[KINDS] = {"fresh", "read", "write", "dma", "line", "run", "play"};
 
-/* The memories that a kind of call is lent, and those of them that it may change, as sets of bits. */
-static const unsigned lent[KINDS] = {0x01, 0x3F, 0x3F, 0x91, 0x5F, 0x5F};
-static const unsigned mutable_ones[KINDS] = {0x01, 0x01, 0x3F, 0x11, 0x41, 0x41};
+/* The memories that a kind of call is lent, and those of them that it may change, as sets of bits; for play see `played`. */
+static const unsigned lent[KINDS] = {0x01, 0x3F, 0x3F, 0x91, 0x5F, 0x5F, 0x17F};
+static const unsigned mutable_ones[KINDS] = {0x01, 0x01, 0x3F, 0x11, 0x41, 0x41, 0};
 
 static struct memory {
     uint8_t *room;    /* ROOM bytes between two barriers, or the block itself */
@@ -110,7 +112,29 @@ static void make_well_formed(uint8_t *unit)
     unit[15] &= 0x0B;
 }
 
-/* Lengths: all right; one off by one; one of any length; all of any length. */
+/* Makes a record of a log, as far as there is room: mostly a good one, its run of a few lines. */
+static void make_record(uint8_t *log, size_t length)
+{
+    uint8_t record[4] = {(uint8_t)below(below(8) ? 3 : 256), (uint8_t)(0x20 + below(0x20)), (uint8_t)next_random(), 0};
+    if (record[0] == 1 || below(8) == 0)
+        record[3] = (uint8_t)next_random();
+    if (record[0] == 2) {
+        record[1] = 0;
+        record[2] = (uint8_t)below(5);
+    } else if (below(8) == 0)
+        record[1] = (uint8_t)next_random();
+    memcpy(log, record, length < 4 ? length : 4);
+}
+
+/* The call that the record at the log's front stands for; PLAY where there is none, so that 5 is due. */
+static int played(const struct memory *log)
+{
+    if (log->length < 4 || log->at[0] > 2 || (log->at[0] != 1 && log->at[3] != 0))
+        return PLAY;
+    return log->at[0] == 0 ? READ : log->at[0] == 1 ? WRITE : RUN_MANY;
+}
+
+/* Lengths: all right; one off by one; one of any length; all of any length. A log is often short. */
 static void choose_lengths(int kind, size_t *length)
 {
     size_t style = below(4);
@@ -124,6 +148,8 @@ static void choose_lengths(int kind, size_t *length)
         length[odd] += below(2) ? 1 : (size_t)-1;
     if (style == 2)
         length[odd] = below(LONGEST + 1);
+    if (style != 1 && below(4) == 0)
+        length[LOG] = below(9); /* about the length of a record */
 }
 
 #define SLICE(m) memory[m].at, memory[m].length
@@ -144,6 +170,9 @@ static uint64_t call(int kind)
 #ifdef LINES
     case RUN_LINE:
         return ppu_line(SLICE(UNIT), SLICE(LEFT), SLICE(RIGHT), SLICE(NAMETABLES), SLICE(OAM), SLICE(LINE));
+    case PLAY:
+        return ppu_play(SLICE(UNIT), SLICE(LOG), SLICE(LEFT), SLICE(RIGHT), SLICE(NAMETABLES), SLICE(OAM), SLICE(PALETTE),
+                        SLICE(LINE));
     default:
         return ppu_run(SLICE(UNIT), (uint16_t)below(5), SLICE(LEFT), SLICE(RIGHT), SLICE(NAMETABLES), SLICE(OAM), SLICE(LINE));
 #else
@@ -193,18 +222,24 @@ static int round_of(long round, int kind)
         fill(&memory[m]);
         if (m == UNIT && length[m] >= 16 && below(4))
             make_well_formed(memory[m].at);
+        if (m == LOG)
+            make_record(memory[m].at, length[m]);
         keep(&memory[m]);
-        wrong |= (lent[kind] >> m & 1) && length[m] != right_length[m];
     }
+    int as = kind == PLAY ? played(&memory[LOG]) : kind;
+    for (int m = 0; m < MEMORIES; m++)
+        wrong |= as != PLAY && (lent[as] >> m & 1) && length[m] != right_length[m];
     uint64_t answer = call(kind);
     reach();
     int number = (int)ppu_number(answer);
+    if ((number == 5) != (as == PLAY))
+        complain(round, kind, as == PLAY ? "no record, and not refused with 5" : "a record is refused with 5");
     if ((number == 2) != wrong)
         complain(round, kind, wrong ? "a wrong length is not refused with 2" : "the right lengths are refused with 2");
     if (number != 0 && answer != (uint64_t)number)
         complain(round, kind, "a refusal says more than its number");
     for (int m = 0; m < MEMORIES; m++) {
-        if (!is_kept(&memory[m], number == 0 && (mutable_ones[kind] >> m & 1)))
+        if (!is_kept(&memory[m], number == 0 && (mutable_ones[as] >> m & 1)))
             complain(round, kind, "memory changed that must not");
         if (!in_pages)
             free(memory[m].room);
@@ -234,9 +269,9 @@ int main(int argc, char **argv)
         count[kind][round_of(round, kind) % 6]++;
     }
     for (int k = 0; k < kinds; k++) {
-        printf("  %-5s %ld done, refused %ld with 1, %ld with 2, %ld with 3, %ld with 4\n", kind_name[k], count[k][0],
-               count[k][1], count[k][2], count[k][3], count[k][4]);
-        failed |= count[k][0] == 0 || count[k][2] == 0;
+        printf("  %-5s %ld done, refused %ld with 1, %ld with 2, %ld with 3, %ld with 4, %ld with 5\n", kind_name[k],
+               count[k][0], count[k][1], count[k][2], count[k][3], count[k][4], count[k][5]);
+        failed |= count[k][0] == 0 || count[k][2] == 0 || (k == PLAY && count[k][5] == 0);
     }
     printf("tests/callers: %ld calls, seed %s, %s: %s\n", rounds, argv[2], argv[3], failed ? "FAILED" : "ok");
     return failed;

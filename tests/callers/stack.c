@@ -31,6 +31,9 @@ static void *all_calls(void *unused)
     for (int i = 0; i < 262; i++)
         sum += one_line(&m);
     sum += run_lines(&m, 262);
+    static const uint8_t log[] = { 1, 0x20, 0x00, 0x80, 2, 0x02, 0x0C, 0, 0, 0x20, 0x02, 0, 3, 0, 0, 0 };
+    for (size_t front = 0; front <= sizeof log; front += PPU_LOG_RECORD_LENGTH)
+        sum += play_log(&m, log + front, sizeof log - front);
     m.page[0] = (uint8_t)sum;
     return unused;
 }

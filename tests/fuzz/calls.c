@@ -2,18 +2,19 @@
 
    The string: 16 bytes of the unit's record (as they are if the next byte is odd, else made well formed), a byte that
    chooses the contents of memory, then steps. A step is a byte, whose low three bits say what, and its arguments:
-   0 read, 1 write, 2 sprite DMA, 3 line, 4 run, 5 a byte of memory, 6 a sprite near the next line, 7 a length for the
-   next call, or fresh. LINES says that the archive has ppu_line and ppu_run. */
+   0 read, 1 write, 2 sprite DMA, 3 line, 4 run, or the record of a log, also with one length near the right one, 5 a byte
+   of memory, 6 a sprite near the next line, 7 a length for the next call, or fresh. LINES says that the archive has
+   ppu_line, ppu_run and ppu_play. */
 #include <stdio.h>
 #include <stdlib.h>
 #include <string.h>
 #include "ppu.h"
 #include "second.h"
 
-enum { UNIT, LEFT, RIGHT, NAMETABLES, OAM, PALETTE, LINE, PAGE, MEMORIES };
+enum { UNIT, LEFT, RIGHT, NAMETABLES, OAM, PALETTE, LINE, PAGE, LOG, MEMORIES };
 enum { LONGEST = 4096, SLACK = 16, STEPS = 60, MOST_LINES = 24, CONTENTS = 16 };
 
-static const size_t right_length[MEMORIES] = {16, 4096, 4096, 2048, 256, 32, 256, 256};
+static const size_t right_length[MEMORIES] = {16, 4096, 4096, 2048, 256, 32, 256, 256, 4};
 
 struct side {
     uint8_t memory[MEMORIES][LONGEST + 2 * SLACK];
@@ -92,6 +93,28 @@ static void put_sprite(void)
         set_byte(OAM, 4 * slot + i, (uint8_t)take());
 }
 
+#ifdef LINES
+/* A record of a log, as it comes or of a known kind; few lines where they are drawn, since the second unit is slow. */
+static void put_record(int as_it_comes)
+{
+    const uint8_t *unit = library.memory[UNIT] + SLACK;
+    uint8_t record[4];
+    for (int i = 0; i < 4; i++)
+        record[i] = (uint8_t)take();
+    if (!as_it_comes) {
+        record[0] %= 3;
+        record[1] = record[0] == 2 ? 0 : 0x20 | record[1] % 0x20;
+        record[3] = record[0] == 1 ? record[3] : 0;
+    }
+    if (record[0] == 2 && unit[1] & 0x18) {
+        record[1] = 0;
+        record[2] %= MOST_LINES + 1;
+    }
+    for (int i = 0; i < 4; i++)
+        set_byte(LOG, i, record[i]);
+}
+#endif
+
 static void step(unsigned what)
 {
     unsigned address, byte, memory;
@@ -116,7 +139,17 @@ static void step(unsigned what)
         compare("line", ppu_line(SLICE(library, UNIT), PICTURE(library)), second_line(SLICE(second, UNIT), PICTURE(second)));
         break;
     case 4:
-        byte = (what & 8 ? take() : what >> 4) % (MOST_LINES + 1);
+        if (what & 16) {
+            put_record(what & 8);
+            if (what & 128) {
+                memory = take() % MEMORIES;
+                length[memory] = right_length[memory] - 1 + take() % 3;
+            }
+            compare("play", ppu_play(SLICE(library, UNIT), SLICE(library, LOG), ACCESS(library), SLICE(library, LINE)),
+                    second_play(SLICE(second, UNIT), SLICE(second, LOG), ACCESS(second), SLICE(second, LINE)));
+            break;
+        }
+        byte = (what & 8 ? take() : what >> 5) % (MOST_LINES + 1);
         compare("run", ppu_run(SLICE(library, UNIT), byte, PICTURE(library)),
                 second_run(SLICE(second, UNIT), byte, PICTURE(second)));
         break;
@@ -131,9 +164,10 @@ static void step(unsigned what)
         break;
     case 7:
         memory = what >> 4 & 7;
-        if (what & 8)
+        if (what & 8) {
+            memory = memory == PAGE && take() & 1 ? LOG : memory;
             length[memory] = take_two() % (right_length[memory] + SLACK + 1);
-        else {
+        } else {
             byte = take();
             compare("fresh", ppu_fresh(SLICE(library, UNIT), byte), second_fresh(SLICE(second, UNIT), byte));
         }

@@ -152,3 +152,36 @@ pub unsafe extern "C" fn run(
     )
     .into()
 }
+
+#[cfg_attr(as_library, export_name = "ppu_play")]
+#[cfg_attr(not(as_library), export_name = "second_play")]
+pub unsafe extern "C" fn play(
+    unit: Mutable,
+    unit_size: Size,
+    log: Shared,
+    log_size: Size,
+    left: Mutable,
+    left_size: Size,
+    right: Mutable,
+    right_size: Size,
+    nametables: Mutable,
+    nametables_size: Size,
+    oam: Mutable,
+    oam_size: Size,
+    palette: Mutable,
+    palette_size: Size,
+    line: Mutable,
+    line_size: Size,
+) -> u64 {
+    calls::play(
+        from_raw_parts_mut(unit, unit_size),
+        from_raw_parts(log, log_size),
+        from_raw_parts_mut(left, left_size),
+        from_raw_parts_mut(right, right_size),
+        from_raw_parts_mut(nametables, nametables_size),
+        from_raw_parts_mut(oam, oam_size),
+        from_raw_parts_mut(palette, palette_size),
+        from_raw_parts_mut(line, line_size),
+    )
+    .into()
+}

@@ -1,5 +1,6 @@
 //! The calls: a record of 16 bytes and byte slices in, an answer out.
 
+use crate::log::Request;
 use crate::memory::{Lent, LentMut};
 use crate::picture::Scene;
 use crate::unit::{Board, Unit, RECORD};
@@ -67,8 +68,12 @@ fn call(record: &mut [u8], work: impl FnOnce(&[u8; RECORD]) -> Outcome) -> Answe
             record.copy_from_slice(&unit.record());
             Answer { number: 0, byte, lines, nmi: unit.nmi() }
         }
-        Err(refusal) => Answer { number: refusal as u8, ..Answer::default() },
+        Err(refusal) => refused(refusal),
     }
+}
+
+fn refused(refusal: Refusal) -> Answer {
+    Answer { number: refusal as u8, ..Answer::default() }
 }
 
 pub fn fresh(record: &mut [u8], board: u8) -> Answer {
@@ -189,4 +194,31 @@ pub fn run(
     line: &mut [u8],
 ) -> Answer {
     lines_run(record, [left, right, nametables, oam], line, |unit, scene, line| unit.run(most, scene, line))
+}
+
+/// Plays the record at the front of a log: the access that it asks for, or its lines without early stop.
+#[allow(clippy::too_many_arguments)]
+pub fn play(
+    record: &mut [u8],
+    log: &[u8],
+    left: &mut [u8],
+    right: &mut [u8],
+    nametables: &mut [u8],
+    oam: &mut [u8],
+    palette: &mut [u8],
+    line: &mut [u8],
+) -> Answer {
+    match Request::at_front(log) {
+        Err(refusal) => refused(refusal),
+        Ok(Request::Read(address)) => read(record, address, left, right, nametables, oam, palette),
+        Ok(Request::Write(address, byte)) => {
+            write(record, address, byte, left, right, nametables, oam, palette)
+        }
+        Ok(Request::Run(lines)) => {
+            lines_run(record, [left, right, nametables, oam], line, |unit, scene, line| {
+                (0..lines).for_each(|_| unit.line(scene, line));
+                lines
+            })
+        }
+    }
 }

@@ -6,8 +6,8 @@
 //! * `unit`: the unit, its record of 16 bytes, and what each port does
 //! * `memory`: the lent memories and where an address leads
 //! * `picture`: the pixels of one line, and what a line does to the unit
-//! * `calls`: fresh, read, write, dma, line, run on a record and byte slices, refusals included
-//! * `log`: the player of logs
+//! * `calls`: fresh, read, write, dma, line, run, play on a record and byte slices, refusals included
+//! * `log`: the records of a log, and the player of logs
 
 pub mod calls;
 pub mod log;

@@ -45,6 +45,24 @@ extern "C" {
         page: *const u8,
         page_size: usize,
     ) -> u64;
+    fn ppu_play(
+        unit: *mut u8,
+        unit_size: usize,
+        log: *const u8,
+        log_size: usize,
+        left: *mut u8,
+        left_size: usize,
+        right: *mut u8,
+        right_size: usize,
+        nametables: *mut u8,
+        nametables_size: usize,
+        oam: *mut u8,
+        oam_size: usize,
+        palette: *mut u8,
+        palette_size: usize,
+        line: *mut u8,
+        line_size: usize,
+    ) -> u64;
 }
 
 #[cfg(lines)]
@@ -146,6 +164,38 @@ pub fn write(
 
 pub fn dma(unit: &mut [u8], oam: &mut [u8], page: &[u8]) -> u64 {
     unsafe { ppu_dma(unit.as_mut_ptr(), unit.len(), oam.as_mut_ptr(), oam.len(), page.as_ptr(), page.len()) }
+}
+
+pub fn play(
+    unit: &mut [u8],
+    log: &[u8],
+    left: &mut [u8],
+    right: &mut [u8],
+    nametables: &mut [u8],
+    oam: &mut [u8],
+    palette: &mut [u8],
+    line: &mut [u8],
+) -> u64 {
+    unsafe {
+        ppu_play(
+            unit.as_mut_ptr(),
+            unit.len(),
+            log.as_ptr(),
+            log.len(),
+            left.as_mut_ptr(),
+            left.len(),
+            right.as_mut_ptr(),
+            right.len(),
+            nametables.as_mut_ptr(),
+            nametables.len(),
+            oam.as_mut_ptr(),
+            oam.len(),
+            palette.as_mut_ptr(),
+            palette.len(),
+            line.as_mut_ptr(),
+            line.len(),
+        )
+    }
 }
 
 #[cfg(lines)]

@@ -1,4 +1,4 @@
-//! The player of logs.
+//! The records of a log, and the player of logs.
 
 use crate::calls::{self, Answer, Refusal};
 use crate::memory::{LINE, NAMETABLES, OAM, PALETTE, TABLE};
@@ -6,6 +6,28 @@ use crate::unit::RECORD;
 use std::io::{self, Write};
 
 const BOARD: u8 = 9;
+
+/// What a record of a log asks for.
+#[derive(Clone, Copy, Debug, PartialEq, Eq)]
+pub enum Request {
+    Read(u16),
+    Write(u16, u8),
+    Run(u16),
+}
+
+impl Request {
+    /// The request of the record at the front of a log; what stands behind it does not matter.
+    pub fn at_front(log: &[u8]) -> Result<Request, Refusal> {
+        let &[kind, high, low, last, ..] = log else { return Err(Refusal::Log) };
+        let number = u16::from_be_bytes([high, low]);
+        match (kind, last) {
+            (0, 0) => Ok(Request::Read(number)),
+            (1, byte) => Ok(Request::Write(number, byte)),
+            (2, 0) => Ok(Request::Run(number)),
+            _ => Err(Refusal::Log),
+        }
+    }
+}
 
 /// A unit as its record, with all the memory that it is lent.
 #[derive(PartialEq, Eq)]
@@ -64,12 +86,21 @@ impl Machine {
         calls::line(&mut self.unit, &self.left, &self.right, &self.nametables, &self.oam, &mut self.line)
     }
 
-    pub fn next_line(&self) -> u16 {
-        u16::from_le_bytes([self.unit[12], self.unit[13]])
+    pub fn play(&mut self, log: &[u8]) -> Answer {
+        calls::play(
+            &mut self.unit,
+            log,
+            &mut self.left,
+            &mut self.right,
+            &mut self.nametables,
+            &mut self.oam,
+            &mut self.palette,
+            &mut self.line,
+        )
     }
 
-    fn nmi(&self) -> bool {
-        self.unit[0] & self.unit[2] & 0x80 != 0
+    pub fn next_line(&self) -> u16 {
+        u16::from_le_bytes([self.unit[12], self.unit[13]])
     }
 }
 
@@ -77,40 +108,19 @@ impl Machine {
 pub fn play(log: &[u8], out: &mut impl Write) -> io::Result<()> {
     let mut machine = Machine::new(BOARD);
     for record in log.chunks(4) {
-        let said = match *record {
-            [0, high, low, 0] => {
-                let answer = machine.read(u16::from_be_bytes([high, low]));
-                accepted(answer).map(|()| Some(format!("{:02X}", answer.byte)))
+        let answer = machine.play(record);
+        match (Request::at_front(record), answer.number) {
+            (Ok(Request::Read(_)), 0) => writeln!(out, "{:02X}", answer.byte)?,
+            (Ok(Request::Write(..)), 0) => {}
+            (Ok(Request::Run(_)), 0) => {
+                writeln!(out, "line {} nmi {}", machine.next_line(), u8::from(answer.nmi))?
             }
-            [1, high, low, byte] => {
-                accepted(machine.write(u16::from_be_bytes([high, low]), byte)).map(|()| None)
-            }
-            [2, high, low, 0] => {
-                for _ in 0..u16::from_be_bytes([high, low]) {
-                    machine.line();
-                }
-                let (line, nmi) = (machine.next_line(), u8::from(machine.nmi()));
-                Ok(Some(format!("line {line} nmi {nmi}")))
-            }
-            _ => Err(Refusal::Log as u8),
-        };
-        match said {
-            Ok(Some(text)) => writeln!(out, "{text}")?,
-            Ok(None) => {}
-            Err(number) => {
-                writeln!(out, "refused {number}")?;
-                if number == Refusal::Log as u8 {
-                    break;
-                }
+            (Ok(_), number) => writeln!(out, "refused {number}")?,
+            (Err(refusal), _) => {
+                writeln!(out, "refused {}", refusal as u8)?;
+                break;
             }
         }
     }
     out.flush()
-}
-
-fn accepted(answer: Answer) -> Result<(), u8> {
-    match answer.number {
-        0 => Ok(()),
-        number => Err(number),
-    }
 }

@@ -4,6 +4,7 @@
 //!
 //! FOLDER has NAME.json, NAME.chr, NAME.l01 and NAME.num, decompressed. Both sides must agree in
 //! everything, and with the capture in each answer (but for status bit 5) and each pixel number.
+//! The library plays the log two more times: with `ppu_run` for lines, and as a log by `ppu_play`.
 
 use second::log::Machine;
 use std::fs;
@@ -41,6 +42,11 @@ impl Library {
             lines -= (answer >> 32) as u16;
         }
     }
+
+    fn play(&mut self, log: &[u8]) -> u64 {
+        let Machine { unit, left, right, nametables, oam, palette, line } = &mut self.0;
+        library::play(unit, log, left, right, nametables, oam, palette, line)
+    }
 }
 
 struct Capture {
@@ -77,6 +83,13 @@ impl Capture {
         }
     }
 
+    /// The log as a player wants it: the last byte of a read is 0.
+    fn log_without_answers(&self) -> Vec<u8> {
+        let mut log = self.log.clone();
+        log.chunks_mut(4).filter(|record| record[0] == 0).for_each(|record| record[3] = 0);
+        log
+    }
+
     fn start(&self) -> Machine {
         let mut machine = Machine::new(0);
         machine.unit.copy_from_slice(&self.unit);
@@ -104,13 +117,16 @@ struct Replay<'a> {
     second: Machine,
     /// The library again, run by `ppu_run` and not line by line.
     by_runs: Library,
+    /// The library again, by `ppu_play` on what is left of the log, the answers taken out of it.
+    by_play: Library,
+    log: Vec<u8>,
     /// Pictures begun so far, this one included.
     begun: usize,
     tally: Tally,
 }
 
 impl Replay<'_> {
-    fn read(&mut self, address: u16, captured: u8) -> Result<(), String> {
+    fn read(&mut self, address: u16, captured: u8) -> Result<u64, String> {
         let library = self.library.read(address);
         let second = u64::from(self.second.read(address));
         self.by_runs.read(address);
@@ -125,17 +141,25 @@ impl Replay<'_> {
         }
         self.tally.reads += 1;
         self.tally.bit_5 += usize::from(apart != 0);
-        Ok(())
+        Ok(library)
     }
 
-    fn write(&mut self, address: u16, byte: u8) -> Result<(), String> {
+    fn write(&mut self, address: u16, byte: u8) -> Result<u64, String> {
         let library = self.library.write(address, byte);
         let second = u64::from(self.second.write(address, byte));
         self.by_runs.write(address, byte);
         if library != second || library & 255 != 0 {
             return Err(format!("write {address:04X} {byte:02X}: library {library:X}, second {second:X}"));
         }
-        Ok(())
+        Ok(library)
+    }
+
+    /// A run, line by line; what the record's answer must be.
+    fn lines(&mut self, lines: u16) -> Result<u64, String> {
+        (0..lines).try_for_each(|_| self.line())?;
+        self.by_runs.run(lines);
+        let unit = &self.second.unit;
+        Ok(u64::from(lines) << 32 | u64::from(unit[0] & unit[2] & 0x80) << 9)
     }
 
     fn line(&mut self) -> Result<(), String> {
@@ -169,19 +193,19 @@ impl Replay<'_> {
         Ok(())
     }
 
-    fn record(&mut self, record: &[u8]) -> Result<(), String> {
-        match *record {
-            [0, high, low, captured] => self.read(u16::from_be_bytes([high, low]), captured)?,
-            [1, high, low, byte] => self.write(u16::from_be_bytes([high, low]), byte)?,
-            [2, high, low, 0] => {
-                let lines = u16::from_be_bytes([high, low]);
-                (0..lines).try_for_each(|_| self.line())?;
-                self.by_runs.run(lines);
-            }
+    fn record(&mut self, number: usize) -> Result<(), String> {
+        let wanted = match self.capture.log[4 * number..] {
+            [0, high, low, captured, ..] => self.read(u16::from_be_bytes([high, low]), captured)?,
+            [1, high, low, byte, ..] => self.write(u16::from_be_bytes([high, low]), byte)?,
+            [2, high, low, 0, ..] => self.lines(u16::from_be_bytes([high, low]))?,
             _ => return Err("no record of a log".into()),
+        };
+        let played = self.by_play.play(&self.log[4 * number..]);
+        if played != wanted {
+            return Err(format!("ppu_play answers {played:X}, the calls {wanted:X}"));
         }
-        let (library, second, runs) = (&self.library.0, &self.second, &self.by_runs.0);
-        if library != second || library != runs {
+        let library = &self.library.0;
+        if [&self.second, &self.by_runs.0, &self.by_play.0].iter().any(|other| *other != library) {
             return Err("the units or memories differ".into());
         }
         self.tally.records += 1;
@@ -195,11 +219,13 @@ fn replay(capture: &Capture) -> Result<Tally, String> {
         library: Library(capture.start()),
         second: capture.start(),
         by_runs: Library(capture.start()),
+        by_play: Library(capture.start()),
+        log: capture.log_without_answers(),
         begun: 0,
         tally: Tally::default(),
     };
-    for (number, record) in capture.log.chunks(4).enumerate() {
-        replay.record(record).map_err(|why| format!("record {number}: {why}"))?;
+    for number in 0..capture.log.len().div_ceil(4) {
+        replay.record(number).map_err(|why| format!("record {number}: {why}"))?;
     }
     Ok(replay.tally)
 }

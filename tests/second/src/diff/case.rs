@@ -66,7 +66,7 @@ impl Case {
             Kind::Read => write!(text, " address={:04X}", call.address).unwrap(),
             Kind::Write => write!(text, " address={:04X} byte={:02X}", call.address, call.byte).unwrap(),
             Kind::Run => write!(text, " most={}", call.most).unwrap(),
-            Kind::Dma | Kind::Line => {}
+            Kind::Dma | Kind::Line | Kind::Play => {}
         }
         for name in Name::ALL {
             let length = call.lengths[name as usize];

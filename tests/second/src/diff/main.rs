@@ -167,14 +167,15 @@ fn print_tally(tally: &Tally) {
     for kind in Kind::ALL {
         let answers = tally.answers[kind as usize];
         let refused: Vec<String> =
-            (1..5).filter(|&n| answers[n] > 0).map(|n| format!("{} refused {n}", answers[n])).collect();
+            (1..6).filter(|&n| answers[n] > 0).map(|n| format!("{} refused {n}", answers[n])).collect();
         let refused = if refused.is_empty() { String::new() } else { format!(", {}", refused.join(", ")) };
         println!("  {:5} {:9} calls: {} done{refused}", kind.text(), tally.of_kind(kind), answers[0]);
     }
     println!(
-        "  {} lines run, {} runs stopped early, hit set {} times, overflow {}; pixels of line calls: {} sprite, {} background",
+        "  {} lines run, {} runs stopped early, {} runs of a log went on there, hit set {} times, overflow {}; pixels of line calls: {} sprite, {} background",
         tally.lines_run,
         tally.early_stops,
+        tally.went_on,
         tally.hits,
         tally.overflows,
         tally.sprite_pixels,
@@ -187,10 +188,17 @@ fn is_whole(tally: &Tally) -> bool {
     let reasons = |kind| match kind {
         Kind::Fresh | Kind::Dma | Kind::Line | Kind::Run => vec![0, 2, 3],
         Kind::Read | Kind::Write => vec![0, 1, 2, 3, 4],
+        Kind::Play => vec![0, 1, 2, 3, 4, 5],
     };
     let asked = |kind: &Kind| library::LINES || !kind.runs_lines();
-    let lines =
-        [tally.early_stops, tally.hits, tally.overflows, tally.sprite_pixels, tally.background_pixels];
+    let lines = [
+        tally.early_stops,
+        tally.went_on,
+        tally.hits,
+        tally.overflows,
+        tally.sprite_pixels,
+        tally.background_pixels,
+    ];
     Kind::ALL.into_iter().filter(asked).all(|k| reasons(k).iter().all(|&n| tally.answers[k as usize][n] > 0))
         && (!library::LINES || lines.iter().all(|&n| n > 0))
 }

@@ -9,11 +9,12 @@ use crate::world::{Call, Kind, Name, SLACK};
 use Kind::*;
 
 /// What a session mostly does.
-const HABITS: [&[Kind]; 4] = [
+const HABITS: [&[Kind]; 5] = [
     &[Read, Read, Read, Write, Write, Write, Write, Dma],
     &[Read, Write, Write, Line, Line, Line, Line, Dma],
     &[Read, Read, Write, Write, Write, Line, Run, Dma],
     &[Write, Line, Line, Run, Run],
+    &[Play, Play, Play, Play, Play, Play, Line, Dma],
 ];
 
 pub fn session(trial: &mut Trial, random: &mut Random, calls: usize) -> Result<(), Stop> {
@@ -22,12 +23,16 @@ pub fn session(trial: &mut Trial, random: &mut Random, calls: usize) -> Result<(
     for _ in 0..calls {
         disturb(trial, random);
         let kind = if random.one_in(200) { Fresh } else { random.pick(habit) };
-        let mut call = some_call(random, kind);
+        let mut call = some_call(trial, random, kind);
         if random.one_in(40) {
             mislength(random, &mut call);
         }
         if kind == Run {
             call.most = run_length(trial, random);
+        }
+        if kind == Play && random.one_in(6) {
+            let [high, low] = run_length(trial, random).to_be_bytes();
+            trial.set(Name::Log, &[2, high, low, 0]);
         }
         if kind == Dma && random.one_in(2) {
             scatter_sprites(trial, random, Name::Page);

@@ -56,6 +56,18 @@ pub fn spoil(random: &mut Random, unit: &mut [u8; 16]) {
     }
 }
 
+/// A record of a log, mostly one that can be played: an access, or few lines.
+pub fn log_record(random: &mut Random, address: u16) -> [u8; 4] {
+    let ([high, low], last) = (address.to_be_bytes(), random.byte());
+    match random.below(16) {
+        0 => [random.byte(), 0, random.below(6) as u8, random.pick(&[0, 0, last])],
+        1 => [random.pick(&[0, 2]), 0, random.below(6) as u8, last],
+        2..=6 => [0, high, low, 0],
+        7..=11 => [1, high, low, last],
+        _ => [2, 0, random.below(6) as u8, 0],
+    }
+}
+
 /// A pattern table.
 pub fn table(random: &mut Random) -> [u8; 4096] {
     let mut table = [0; 4096];

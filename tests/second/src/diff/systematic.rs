@@ -8,13 +8,13 @@ use crate::world::{Call, Kind, Name, SLACK};
 pub type Session = fn(&mut Trial, &mut Random, usize) -> Result<(), Stop>;
 
 /// Each kind of session, with the number of parts that it comes in.
-pub const SESSIONS: [(&str, Session, usize); 17] = [
+pub const SESSIONS: [(&str, Session, usize); 22] = [
     ("boards", boards, 1),
     ("addresses", addresses, 16),
     ("ports", ports, 8),
-    ("lengths", lengths, 6),
-    ("pairs of lengths", pairs_of_lengths, 6),
-    ("records", records, 6),
+    ("lengths", lengths, 7),
+    ("pairs of lengths", pairs_of_lengths, 7),
+    ("records", records, 7),
     ("wide fields", wide_fields, 12),
     ("video memory", video_memory, 16),
     ("scroll writes", scroll_writes, 8),
@@ -26,6 +26,11 @@ pub const SESSIONS: [(&str, Session, usize); 17] = [
     ("sprite columns", sprite_columns, 8),
     ("sprites in number", sprites_in_number, 4),
     ("runs", runs, 8),
+    ("kinds of a log", kinds_of_a_log, 1),
+    ("words of a log", words_of_a_log, 16),
+    ("runs of a log", runs_of_a_log, 8),
+    ("lengths by a log", lengths_by_a_log, 1),
+    ("order of refusals", order_of_refusals, 3),
 ];
 
 /// New contents everywhere.
@@ -36,7 +41,7 @@ pub fn refill(trial: &mut Trial, random: &mut Random) {
     trial.set(Name::Right, &scenery::table(random));
     trial.set(Name::Nametables, &scenery::nametables(random));
     trial.set(Name::Oam, &scenery::oam(random, scenery::next_line(&unit)));
-    for name in [Name::Palette, Name::Line, Name::Page] {
+    for name in [Name::Palette, Name::Line, Name::Page, Name::Log] {
         let mut bytes = vec![0; name.length()];
         random.fill(&mut bytes);
         trial.set(name, &bytes);
@@ -62,8 +67,8 @@ fn unit_at_line(random: &mut Random, line: u16) -> [u8; 16] {
     unit
 }
 
-/// A call of the kind, its arguments random and mostly accepted.
-pub fn some_call(random: &mut Random, kind: Kind) -> Call {
+/// A call of the kind, its arguments random and mostly accepted; for play a record is put into the log.
+pub fn some_call(trial: &mut Trial, random: &mut Random, kind: Kind) -> Call {
     let address = match random.below(16) {
         0 => random.pick(&[0, 0x1FF8, 0x1FFF, 0x4000, 0x4007, 0x8000, 0xFFFF]),
         1 => random.next() as u16,
@@ -77,6 +82,10 @@ pub fn some_call(random: &mut Random, kind: Kind) -> Call {
         Kind::Dma => Call::dma(),
         Kind::Line => Call::line(),
         Kind::Run => Call::run(random.below(6) as u16),
+        Kind::Play => {
+            trial.set(Name::Log, &scenery::log_record(random, address));
+            Call::play()
+        }
     }
 }
 
@@ -132,7 +141,8 @@ fn lengths(trial: &mut Trial, random: &mut Random, kind: usize) -> Result<(), St
                 scenery::spoil(random, &mut unit);
             }
             trial.set(Name::Unit, &unit);
-            trial.call(&some_call(random, kind).with_length(name, length))?;
+            let call = some_call(trial, random, kind);
+            trial.call(&call.with_length(name, length))?;
         }
     }
     Ok(())
@@ -150,7 +160,7 @@ fn pairs_of_lengths(trial: &mut Trial, random: &mut Random, kind: usize) -> Resu
                     scenery::spoil(random, &mut unit);
                 }
                 trial.set(Name::Unit, &unit);
-                let call = some_call(random, kind);
+                let call = some_call(trial, random, kind);
                 let call = call.with_length(one, one.length() + which / 2 % 3 - 1);
                 trial.call(&call.with_length(other, other.length() + which / 6 % 3 - 1))?;
             }
@@ -168,7 +178,8 @@ fn records(trial: &mut Trial, random: &mut Random, kind: usize) -> Result<(), St
             let mut unit = scenery::unit(random);
             unit[at] = value;
             trial.set(Name::Unit, &unit);
-            trial.call(&some_call(random, kind))?;
+            let call = some_call(trial, random, kind);
+            trial.call(&call)?;
         }
     }
     Ok(())
@@ -186,7 +197,8 @@ fn wide_fields(trial: &mut Trial, random: &mut Random, part: usize) -> Result<()
             unit[12..14].copy_from_slice(&261u16.to_le_bytes());
         }
         trial.set(Name::Unit, &unit);
-        trial.call(&some_call(random, kind))?;
+        let call = some_call(trial, random, kind);
+        trial.call(&call)?;
     }
     Ok(())
 }
@@ -413,6 +425,131 @@ fn runs(trial: &mut Trial, random: &mut Random, part: usize) -> Result<(), Stop>
         unit[1] |= 0x18;
         trial.set(Name::Unit, &unit);
         trial.call(&Call::run(65535))?;
+    }
+    Ok(())
+}
+
+/// Every kind byte with last bytes that must be 0 and are not, in logs of every length from 0 to 12.
+fn kinds_of_a_log(trial: &mut Trial, random: &mut Random, _: usize) -> Result<(), Stop> {
+    for kind in 0..=255 {
+        refill(trial, random);
+        for last in [0, 1, 255] {
+            for length in 0..=12 {
+                let [high, low] = match kind {
+                    0 | 1 => (random.within(0x2000, 0x3FFF) as u16).to_be_bytes(),
+                    _ => [0, random.below(6) as u8],
+                };
+                trial.set(Name::Unit, &scenery::unit(random));
+                trial.set(Name::Log, &[kind, high, low, last]);
+                trial.call(&Call::play().with_length(Name::Log, length))?;
+            }
+        }
+    }
+    Ok(())
+}
+
+/// Every middle word of a record that reads and of one that writes.
+fn words_of_a_log(trial: &mut Trial, random: &mut Random, part: usize) -> Result<(), Stop> {
+    refill(trial, random);
+    for word in part * 4096..part * 4096 + 4096 {
+        let [high, low] = (word as u16).to_be_bytes();
+        for record in [[0, high, low, 0], [1, high, low, random.byte()]] {
+            trial.set(Name::Unit, &scenery::unit(random));
+            trial.set(Name::Log, &record);
+            let length = if random.one_in(2) { 4 } else { random.within(4, 4 + SLACK) };
+            trial.call(&Call::play().with_length(Name::Log, length))?;
+        }
+    }
+    Ok(())
+}
+
+/// A unit at the line that does not draw, or seldom, with control bit 7 as told, plays a run.
+fn played_run(trial: &mut Trial, random: &mut Random, line: u16, bit: u8, lines: u16) -> Result<(), Stop> {
+    let mut unit = unit_at_line(random, line);
+    unit[0] = unit[0] & 0x7F | bit << 7;
+    if lines > 600 || !random.one_in(24) {
+        unit[1] &= !0x18;
+    }
+    let [high, low] = lines.to_be_bytes();
+    trial.set(Name::Unit, &unit);
+    trial.set(Name::Log, &[2, high, low, 0]);
+    trial.call(&Call::play()).map(drop)
+}
+
+/// Runs of a log from every line, of lengths about each bound, with control bit 7 set and not.
+fn runs_of_a_log(trial: &mut Trial, random: &mut Random, part: usize) -> Result<(), Stop> {
+    for line in (part as u16..262).step_by(8) {
+        refill(trial, random);
+        let to_241 = (241 + 262 - line) % 262 + 1;
+        for lines in [0, 1, 2, to_241 - 1, to_241, to_241 + 1, 241, 242, 256, 261, 262, 263] {
+            for bit in 0..2 {
+                played_run(trial, random, line, bit, lines)?;
+            }
+        }
+    }
+    for lines in [512, 1000, 32767, 32768, 65280, 65534, 65535] {
+        let line = random.below(262) as u16;
+        played_run(trial, random, line, part as u8 & 1, lines)?;
+    }
+    Ok(())
+}
+
+/// Each memory of a wrong length, under a record of each kind: an access does not look at the line
+/// buffer, nor a run at the palette.
+fn lengths_by_a_log(trial: &mut Trial, random: &mut Random, _: usize) -> Result<(), Stop> {
+    for round in 0..16 {
+        refill(trial, random);
+        for record in [[0, 0x20, 0, 0], [1, 0x20, 0, random.byte()], [2, 0, 0, 0]] {
+            for &name in Kind::Play.lent() {
+                let right = name.length();
+                for length in [0, 1, right / 2, right - 1, right, right + 1, right + SLACK] {
+                    let [kind, high, _, last] = record;
+                    trial.set(Name::Unit, &scenery::unit(random));
+                    trial.set(Name::Log, &[kind, high, round, last]);
+                    trial.call(&Call::play().with_length(name, length))?;
+                }
+            }
+        }
+    }
+    Ok(())
+}
+
+/// Every set of things wrong at once with a record of one kind, so that their order shows.
+fn order_of_refusals(trial: &mut Trial, random: &mut Random, kind: usize) -> Result<(), Stop> {
+    let memories =
+        [Name::Unit, Name::Left, Name::Right, Name::Nametables, Name::Oam, Name::Palette, Name::Line];
+    refill(trial, random);
+    for wrong in 0..64 {
+        let [drawing, malformed, outside, mislent, last_byte, cut] =
+            [0, 1, 2, 3, 4, 5].map(|bit| wrong >> bit & 1 == 1);
+        for name in memories {
+            for length in [name.length() - 1, name.length() + 1] {
+                let mut unit = unit_at_line(random, if drawing { 100 } else { 241 });
+                unit[1] |= 0x18;
+                if malformed {
+                    scenery::spoil(random, &mut unit);
+                }
+                let port = random.pick(&[4, 7]);
+                let [high, low] = match kind {
+                    2 => [0, random.below(3) as u8],
+                    _ => [if outside { 0x40 } else { 0x20 }, port],
+                };
+                let last = if last_byte { random.within(1, 255) as u8 } else { 0 };
+                let mut call = Call::play();
+                if mislent {
+                    call = call.with_length(name, length);
+                }
+                if cut {
+                    call = call.with_length(Name::Log, random.below(4));
+                }
+                trial.set(Name::Unit, &unit);
+                trial.set(Name::Log, &[kind as u8, high, low, last]);
+                trial.call(&call)?;
+                trial.set(Name::Unit, &unit);
+                trial.set(Name::Log, &[random.within(3, 255) as u8, high, low, last]);
+                trial.call(&call)?;
+            }
+        }
     }
     Ok(())
 }

@@ -1,6 +1,7 @@
 //! Both sides of a session: the same calls on each, compared after every call.
 
 use crate::case::Case;
+use crate::scenery::next_line;
 use crate::world::{Call, Kind, Name, World};
 
 /// Why a session ends before its time.
@@ -16,9 +17,11 @@ pub enum Stop {
 /// What has been done, by kind of call and number answered.
 #[derive(Clone, Default)]
 pub struct Tally {
-    pub answers: [[u64; 6]; 6],
+    pub answers: [[u64; 6]; 7],
     pub lines_run: u64,
     pub early_stops: u64,
+    /// Runs of a log that went on after line 241 although control bit 7 was set.
+    pub went_on: u64,
     pub hits: u64,
     pub overflows: u64,
     pub sprite_pixels: u64,
@@ -32,6 +35,7 @@ impl Tally {
         }
         self.lines_run += other.lines_run;
         self.early_stops += other.early_stops;
+        self.went_on += other.went_on;
         self.hits += other.hits;
         self.overflows += other.overflows;
         self.sprite_pixels += other.sprite_pixels;
@@ -89,26 +93,28 @@ impl<'a> Trial<'a> {
         if self.calls.is_multiple_of(256) && (self.late)() {
             return Err(Stop::Late);
         }
-        let status = self.unit()[2];
+        let before = self.unit();
         let answer = call.on_library(&mut self.library);
         let expected = call.on_second(&mut self.second);
         if answer != expected || self.library != self.second {
             return Err(Stop::Difference(self.calls));
         }
         self.calls += 1;
-        self.count(call, answer, status);
+        self.count(call, answer, &before);
         Ok(answer)
     }
 
-    fn count(&mut self, call: &Call, answer: u64, status: u8) {
+    fn count(&mut self, call: &Call, answer: u64, before: &[u8; 16]) {
         let tally = &mut self.tally;
         tally.answers[call.kind as usize][(answer & 7) as usize] += 1;
-        if call.kind.runs_lines() && answer & 255 == 0 {
-            let lines = answer >> 32;
+        let lines = answer >> 32;
+        if lines > 0 {
             let unit = self.library.of(Name::Unit);
-            let raised = unit[2] & !status;
+            let raised = unit[2] & !before[2];
+            let to_241 = (241 + 262 - u64::from(next_line(before))) % 262 + 1;
             tally.lines_run += lines;
             tally.early_stops += u64::from(call.kind == Kind::Run && lines < call.most.into());
+            tally.went_on += u64::from(call.kind == Kind::Play && before[0] & 0x80 != 0 && lines > to_241);
             tally.hits += u64::from(raised >> 6 & 1);
             tally.overflows += u64::from(raised >> 5 & 1);
             if call.kind == Kind::Line && unit[1] & 0x18 != 0 {

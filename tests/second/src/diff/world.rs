@@ -11,15 +11,16 @@ pub enum Name {
     Palette,
     Line,
     Page,
+    Log,
 }
 
 use Name::*;
 
 impl Name {
-    pub const ALL: [Name; 8] = [Unit, Left, Right, Nametables, Oam, Palette, Line, Page];
+    pub const ALL: [Name; 9] = [Unit, Left, Right, Nametables, Oam, Palette, Line, Page, Log];
 
     pub fn text(self) -> &'static str {
-        ["unit", "left", "right", "nametables", "oam", "palette", "line", "page"][self as usize]
+        ["unit", "left", "right", "nametables", "oam", "palette", "line", "page", "log"][self as usize]
     }
 
     pub fn length(self) -> usize {
@@ -27,7 +28,8 @@ impl Name {
     }
 }
 
-pub const LENGTHS: [usize; 8] = [16, 4096, 4096, 2048, 256, 32, 256, 256];
+/// The right lengths; a log may be longer than the record at its front.
+pub const LENGTHS: [usize; 9] = [16, 4096, 4096, 2048, 256, 32, 256, 256, 4];
 
 /// Bytes beyond the right length that a call may be lent.
 pub const SLACK: usize = 64;
@@ -62,7 +64,7 @@ impl Memory {
 }
 
 #[derive(Clone, PartialEq, Eq)]
-pub struct World(pub [Memory; 8]);
+pub struct World(pub [Memory; 9]);
 
 impl World {
     pub fn new() -> World {
@@ -86,13 +88,15 @@ pub enum Kind {
     Dma,
     Line,
     Run,
+    Play,
 }
 
 impl Kind {
-    pub const ALL: [Kind; 6] = [Kind::Fresh, Kind::Read, Kind::Write, Kind::Dma, Kind::Line, Kind::Run];
+    pub const ALL: [Kind; 7] =
+        [Kind::Fresh, Kind::Read, Kind::Write, Kind::Dma, Kind::Line, Kind::Run, Kind::Play];
 
     pub fn text(self) -> &'static str {
-        ["fresh", "read", "write", "dma", "line", "run"][self as usize]
+        ["fresh", "read", "write", "dma", "line", "run", "play"][self as usize]
     }
 
     /// The memories that such a call is lent.
@@ -102,6 +106,7 @@ impl Kind {
             Kind::Read | Kind::Write => &[Unit, Left, Right, Nametables, Oam, Palette],
             Kind::Dma => &[Unit, Oam, Page],
             Kind::Line | Kind::Run => &[Unit, Left, Right, Nametables, Oam, Line],
+            Kind::Play => &[Unit, Log, Left, Right, Nametables, Oam, Palette, Line],
         }
     }
 
@@ -111,21 +116,22 @@ impl Kind {
     }
 }
 
-/// A call and its arguments; `byte` is the board of fresh, `most` the lines of run.
+/// A call and its arguments; `byte` is the board of fresh, `most` the lines of run. What play plays
+/// stands in the log that it is lent.
 #[derive(Clone, Debug, PartialEq, Eq)]
 pub struct Call {
     pub kind: Kind,
     pub address: u16,
     pub byte: u8,
     pub most: u16,
-    pub lengths: [usize; 8],
+    pub lengths: [usize; 9],
 }
 
 macro_rules! performed {
     ($side:path, $call:expr, $world:expr) => {{
         use $side as side;
         let (call, lengths) = ($call, $call.lengths);
-        let [unit, left, right, nametables, oam, palette, line, page] = &mut $world.0;
+        let [unit, left, right, nametables, oam, palette, line, page, log] = &mut $world.0;
         let unit = &mut unit.bytes_mut()[..lengths[0]];
         let left = &mut left.bytes_mut()[..lengths[1]];
         let right = &mut right.bytes_mut()[..lengths[2]];
@@ -134,6 +140,7 @@ macro_rules! performed {
         let palette = &mut palette.bytes_mut()[..lengths[5]];
         let line = &mut line.bytes_mut()[..lengths[6]];
         let page = &mut page.bytes_mut()[..lengths[7]];
+        let log = &mut log.bytes_mut()[..lengths[8]];
         u64::from(match call.kind {
             Kind::Fresh => side::fresh(unit, call.byte),
             Kind::Read => side::read(unit, call.address, left, right, nametables, oam, palette),
@@ -141,6 +148,7 @@ macro_rules! performed {
             Kind::Dma => side::dma(unit, oam, page),
             Kind::Line => side::line(unit, left, right, nametables, oam, line),
             Kind::Run => side::run(unit, call.most, left, right, nametables, oam, line),
+            Kind::Play => side::play(unit, log, left, right, nametables, oam, palette, line),
         })
     }};
 }
@@ -172,6 +180,10 @@ impl Call {
 
     pub fn run(most: u16) -> Call {
         Call { most, ..Call::new(Kind::Run) }
+    }
+
+    pub fn play() -> Call {
+        Call::new(Kind::Play)
     }
 
     pub fn with_length(mut self, name: Name, length: usize) -> Call {
