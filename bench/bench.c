@@ -111,6 +111,17 @@ static unsigned sprite_dma(const Drawer *d, unsigned oamaddr)
 static unsigned dma_from_0(const Drawer *d) { return sprite_dma(d, 0); }
 static unsigned dma_from_37(const Drawer *d) { return sprite_dma(d, 37); }
 
+/* a record of a log, a thousand times */
+static unsigned plays(const Drawer *d, const uint8_t *record)
+{
+    for (int i = 0; i < 1000; i++)
+        d->play(UNIT, record, PPU_LOG_RECORD_LENGTH, TABLES, PALETTE, LINE);
+    return 1000;
+}
+
+static unsigned play_read(const Drawer *d) { return plays(d, (const uint8_t[]){ 0, 0x20, 0x02, 0 }); }
+static unsigned play_write(const Drawer *d) { return plays(d, (const uint8_t[]){ 1, 0x20, 0x07, 0x55 }); }
+
 /* WORK: how memory stands before it, and its pass. Calls are made with the screen off, so that none is refused. Runs are only ours. */
 typedef struct {
     const char *name;
@@ -138,6 +149,8 @@ static const Work calls[] = {
     { "`ppu_write` to port 4", screen_off, write_oam },
     { "`ppu_dma`, OAMADDR 0", screen_off, dma_from_0 },
     { "`ppu_dma`, OAMADDR 37", screen_off, dma_from_37 },
+    { "`ppu_play` of a read of port 2", screen_off, play_read },
+    { "`ppu_play` of a write to port 7", screen_off, play_write },
 };
 
 static const Work runs[] = {

@@ -17,14 +17,21 @@ file == 1 {
     works = FNR
     next
 }
+# a drawer's call that it makes itself, as a peer's play its read, is in the cost of the outer one
+function whose(function_name) {
+    return match(function_name, /_(line|run|read|write|dma|play)$/) && substr(function_name, 1, RSTART - 1) in known ? substr(function_name, 1, RSTART - 1) : ""
+}
+/^fn=/ {
+    caller = whose(substr($0, 4))
+}
 /^cfn=/ {
-    callee = substr($0, 5)
+    callee = whose(substr($0, 5))
 }
 /^calls=/ {
     getline
     split($0, words, " ")
-    if (match(callee, /_(line|run|read|write|dma)$/) && substr(callee, 1, RSTART - 1) in known)
-        cost[file - 1, substr(callee, 1, RSTART - 1)] += words[2]
+    if (callee != "" && caller == "")
+        cost[file - 1, callee] += words[2]
 }
 function table(which, first, title, by, i, k, head, rule) {
     for (k = 1; k <= by; k++) {

@@ -133,3 +133,14 @@ u64 ppu_run(u8 *u,size_t un,u16 lines,const u8 *l,size_t ln,const u8 *r,size_t r
   for(;k<m;k++) one(u,l,r,n,o,b);
   return RET(u,0,k);
 }
+u64 ppu_play(u8 *u,size_t un,const u8 *g,size_t gn,u8 *l,size_t ln,u8 *r,size_t rn,u8 *n,size_t nn,u8 *o,size_t on,u8 *p,size_t pn,u8 *b,size_t bn){
+  u32 k,m;
+  if(gn<4||g[0]>2||(g[0]!=1&&g[3])) return 5;
+  m=(u32)g[1]<<8|g[2];
+  if(g[0]==0) return ppu_read(u,un,(u16)m,l,ln,r,rn,n,nn,o,on,p,pn);
+  if(g[0]==1) return ppu_write(u,un,(u16)m,g[3],l,ln,r,rn,n,nn,o,on,p,pn);
+  if(un!=16||ln!=4096||rn!=4096||nn!=2048||on!=256||bn!=256) return 2;
+  if(!ok(u)) return 3;
+  for(k=0;k<m;k++) one(u,l,r,n,o,b);
+  return RET(u,0,m);
+}
