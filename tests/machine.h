@@ -90,6 +90,25 @@ static inline void set_word(uint8_t *record, int offset, unsigned number)
     record[offset + 1] = (uint8_t)(number / 256);
 }
 
+/* a good record, warmed up, with bit 7 of control and status set, so that the NMI level 0 of a refusal is not the unit's own */
+static inline void good_record(Machine *m, unsigned mask, unsigned line)
+{
+    static const uint8_t record[16] = { 0x80, 0, 0xA0, 0x11, 0x34, 0x21, 0x56, 0x12, 5, 1, 0x9A, 0x5B, 0, 0, 1, 9 };
+    memcpy(m->unit, record, 16);
+    m->unit[PPU_AT_MASK] = (uint8_t)mask;
+    set_word(m->unit, PPU_AT_NEXT_LINE, line);
+}
+
+/* the same with all memory of its right length, scattered */
+static inline void renew(Machine *m, unsigned seed, unsigned mask, unsigned line)
+{
+    for (int i = 0; i < BUFFERS; i++)
+        if (m->length[i] != right_lengths[i])
+            lend(m, i, right_lengths[i]);
+    scatter(m, seed);
+    good_record(m, mask, line);
+}
+
 /* the whole answer of a call that is done; a refused call's is its number alone */
 static inline uint64_t answer(unsigned byte, unsigned nmi, unsigned lines)
 {

@@ -32,23 +32,7 @@ static uint64_t play(Machine *machine, unsigned kind, unsigned number, unsigned 
     return play_of(machine, record, PPU_LOG_RECORD_LENGTH);
 }
 
-/* a good record, warmed up, with bit 7 of control and status set, so that the NMI level 0 of a refusal is not the unit's own */
-static void good_record(unsigned mask, unsigned line)
-{
-    static const uint8_t record[16] = { 0x80, 0, 0xA0, 0x11, 0x34, 0x21, 0x56, 0x12, 5, 1, 0x9A, 0x5B, 0, 0, 1, 9 };
-    memcpy(m.unit, record, 16);
-    m.unit[PPU_AT_MASK] = (uint8_t)mask;
-    set_word(m.unit, PPU_AT_NEXT_LINE, line);
-}
-
-static void restart(unsigned mask, unsigned line)
-{
-    for (int i = 0; i < BUFFERS; i++)
-        if (m.length[i] != right_lengths[i])
-            lend(&m, i, right_lengths[i]);
-    scatter(&m, 11);
-    good_record(mask, line);
-}
+static void restart(unsigned mask, unsigned line) { renew(&m, 11, mask, line); }
 
 /* what stands in m now is refused with this number, and stays */
 static void expect_refused(const uint8_t *record, size_t length, unsigned number)
@@ -98,7 +82,7 @@ static void kinds(void)
         for (unsigned last = 0; last < 256; last++) {
             uint8_t record[4] = { (uint8_t)kind, kind == 2 ? 0 : 0x20, 0x03, (uint8_t)last };
             at = 256 * (long)kind + (long)last;
-            good_record(0, 241);
+            good_record(&m, 0, 241);
             if (is_record(kind, last))
                 EXPECT(ppu_number(play_of(&m, record, 4)), PPU_DONE);
             else if (last < 3 || last == 255 || kind < 3)
@@ -211,7 +195,7 @@ static void accesses(void)
     restart(0, 241);
     for (unsigned address = 0; address < 65536; address++) {
         at = address;
-        good_record(address % 3 ? 0 : 0x18, address % 5 ? 241 : 17);
+        good_record(&m, address % 3 ? 0 : 0x18, address % 5 ? 241 : 17);
         access_alike(0, address, 0);
         access_alike(1, address, address % 251);
     }
@@ -220,7 +204,7 @@ static void accesses(void)
     for (unsigned port = 0; port < 8; port++)
         for (unsigned byte = 0; byte < 256; byte++) {
             at = 256 * (long)port + (long)byte;
-            good_record(byte % 4 * 8, byte % 2 ? 241 : 17);
+            good_record(&m, byte % 4 * 8, byte % 2 ? 241 : 17);
             set_word(m.unit, PPU_AT_V, 131 * byte + port);
             access_alike(1, 0x2000 + port, byte);
             EXPECT_SAME(&m, &other);
@@ -252,21 +236,21 @@ static void runs(void)
     for (unsigned line = 0; line < 262; line++)
         for (size_t i = 0; i < sizeof counts / sizeof counts[0]; i++) {
             at = line;
-            good_record(line % 32 == 9 ? 0x1E : 0, line);
+            good_record(&m, line % 32 == 9 ? 0x1E : 0, line);
             run_alike(counts[i]);
-            good_record(line % 32 == 17 ? 0x1E : 0, line);
+            good_record(&m, line % 32 == 17 ? 0x1E : 0, line);
             m.unit[PPU_AT_CONTROL] = 0;
             run_alike(counts[i]);
         }
     part("runs from every line, control bit 7 set and not: as many calls of ppu_line, in every byte");
     for (unsigned lines = 1; lines < 600; lines++) {
         at = lines;
-        good_record(0, 241);
+        good_record(&m, 0, 241);
         m.unit[PPU_AT_STATUS] = 0;
         EXPECT(ppu_lines(play(&m, 2, lines, 0)), lines);
         EXPECT(word(m.unit, PPU_AT_NEXT_LINE), (241 + lines) % 262);
     }
-    good_record(0, 241);
+    good_record(&m, 0, 241);
     EXPECT(play(&m, 2, 65535, 0), answer(0, 0, 65535));
     EXPECT(word(m.unit, PPU_AT_NEXT_LINE), (241 + 65535) % 262);
     part("runs of 1 to 599 and 65535 lines over line 241 with control bit 7 set: none stops early");

@@ -32,23 +32,9 @@ static uint64_t call(int which, unsigned address)
     }
 }
 
-/* a good record, warmed up, with this mask and next line */
-static void good_record(unsigned mask, unsigned line)
-{
-    static const uint8_t record[16] = { 0x80, 0, 0xA0, 0x11, 0x34, 0x21, 0x56, 0x12, 5, 1, 0x9A, 0x5B, 0, 0, 1, 9 };
-    memcpy(m.unit, record, 16);
-    m.unit[PPU_AT_MASK] = (uint8_t)mask;
-    set_word(m.unit, PPU_AT_NEXT_LINE, line);
-}
-
-/* the same with all memory of its right length, scattered */
 static void restart(unsigned mask, unsigned line)
 {
-    for (int i = 0; i < BUFFERS; i++)
-        if (m.length[i] != right_lengths[i])
-            lend(&m, i, right_lengths[i]);
-    scatter(&m, 7);
-    good_record(mask, line);
+    renew(&m, 7, mask, line);
     copy(&before, &m);
 }
 
@@ -148,7 +134,7 @@ static void bytes_of_a_record(void)
         for (int offset = 0; offset < 16; offset++)
             for (unsigned byte = 0; byte < 256; byte++) {
                 at = 256 * offset + (long)byte;
-                good_record(0, 0);
+                good_record(&m, 0, 0);
                 m.unit[offset] = (uint8_t)byte;
                 if (!byte_ok(offset, byte))
                     expect_refused(which, 0x2000 + byte % 8, 3);
@@ -170,16 +156,16 @@ static void numbers_of_a_record(void)
     for (int i = 0; i < 3; i++) {
         for (unsigned n = 0; n < 65536; n++) {
             at = n;
-            good_record(0, 0);
+            good_record(&m, 0, 0);
             set_word(m.unit, numbers[i].offset, n);
             EXPECT(ppu_number(read_at(&m, 0x2000)), n < numbers[i].limit ? 0 : 3);
         }
         for (int which = 0; which < CALLS; which++) {
             at = numbers[i].offset;
-            good_record(0, 0);
+            good_record(&m, 0, 0);
             set_word(m.unit, numbers[i].offset, numbers[i].limit - 1);
             EXPECT(ppu_number(call(which, 0x2005)), 0);
-            good_record(0, 0);
+            good_record(&m, 0, 0);
             set_word(m.unit, numbers[i].offset, numbers[i].limit);
             expect_refused(which, 0x2005, 3);
         }
@@ -194,14 +180,14 @@ static void addresses(void)
     for (unsigned address = 0; address < 65536; address++) {
         unsigned number = address >= 0x2000 && address <= 0x3FFF ? 0 : 1;
         at = address;
-        good_record(0, 241);
+        good_record(&m, 0, 241);
         EXPECT(ppu_number(read_at(&m, address)), number);
-        good_record(0, 241);
+        good_record(&m, 0, 241);
         EXPECT(ppu_number(write_at(&m, address, 0x3C)), number);
     }
     for (size_t i = 0; i < sizeof edges / sizeof edges[0]; i++) {
         at = edges[i];
-        good_record(0, 241);
+        good_record(&m, 0, 241);
         expect_refused(READ, edges[i], 1);
         expect_refused(WRITE, edges[i], 1);
     }
@@ -219,11 +205,11 @@ static void drawing_with(unsigned mask, unsigned line)
 {
     for (int which = READ; which <= WRITE; which++)
         for (unsigned port = 0; port < 8; port++) {
-            good_record(mask, line);
+            good_record(&m, mask, line);
             EXPECT(ppu_number(call(which, 0x2000 + port)), number_while(which, port, mask, line));
         }
     for (int which = DMA; which < CALLS; which++) {
-        good_record(mask, line);
+        good_record(&m, mask, line);
         EXPECT(ppu_number(call(which, 0)), 0);
     }
 }
@@ -244,7 +230,7 @@ static void drawing(void)
         }
     for (int i = 0; i < 6; i++)
         for (unsigned mirror = 0x2000; mirror < 0x4000; mirror += 0x3F8) {
-            good_record(0x1E, edges[i]);
+            good_record(&m, 0x1E, edges[i]);
             at = mirror;
             if (edges[i] <= 239 || edges[i] == 261) {
                 expect_refused(READ, mirror + 4, 4);
@@ -260,7 +246,7 @@ static void together(int which, int holds, unsigned port, int lent, int field)
 {
     int length = holds & 1, unit = holds & 2, outside = holds & 4, shut = holds & 8;
     at = holds;
-    good_record(shut ? 0x18 : 0, 100);
+    good_record(&m, shut ? 0x18 : 0, 100);
     if (unit)
         m.unit[field] = 0xFF;
     if (length)
@@ -306,7 +292,7 @@ static void blank_lines(void)
         for (unsigned line = 0; line < 262; line++)
             for (int which = A_LINE; which < CALLS; which++) {
                 at = line;
-                good_record(line % 4 * 8, line);
+                good_record(&m, line % 4 * 8, line);
                 m.unit[PPU_AT_FINE_X] = cases[i].number == 3 ? 8 : 7;
                 expect_refused(which, 0, cases[i].number);
             }

@@ -1,7 +1,7 @@
 // One line, and runs of lines. Inner functions, not public calls: they require the lengths and the well-formed unit
 // that a call has checked.
 // A drawn line: background_shown, zero_hits, overlay, sprites_on, sprites_shown, draw.
-// Any line: undrawn, one_line. Runs: run.
+// Any line: undrawn, one_line. Runs: run, and run_all for a log.
 ghost use mathlib.Core.Path.{_≡_};
 ghost use mathlib.Core.Bool.{cond, true, false, _&&_};
 ghost use mathlib.Core.List.{List, []};
