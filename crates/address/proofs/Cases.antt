@@ -13,7 +13,7 @@ use Rattle.model.specs.declared.Place.{Place}
 use Rattle.model.specs.declared.Place.the-variants.{Pattern, Nametable, Palette}
 use Rattle.model.proofs.Address.{page-small}
 use Rattle.address.proofs.Table.{at2}
-use Rattle.model.specs.Address.{wiringNumber, pageAt, cellOf, paletteCell, placeOf, tileIn, tilePart}
+use Rattle.model.specs.Address.{wiringNumber, pageAt, cellOf, paletteCell, placeOf, tileIn, tilePart, quarterIn, quarterPart}
 
 -- the table's rule, once over all entries
 abbrev pub pages : List (List ℕ)
@@ -95,3 +95,19 @@ module _ (l r : List ℕ) (s : Bool) (k : ℕ) (x : List ℕ) where
   tile-4 h i b e = e ∙ rw (eq-eqb (length l) 4096 h, eq-eqb (length r) 4096 i, b)
 
 pub ruleset tile-cases = (tile-1, tile-2, tile-3, tile-4)
+
+-- the page of a quarter
+pub quarter-part : (w : Wiring) (n : List ℕ) (q p : ℕ) (x : List ℕ) → p ≡ pageAt (wiringNumber w) (q % 4) → x ≡ take (p * 1024 + 1024 - p * 1024) (drop (p * 1024) n) → x ≡ quarterIn w n q
+unfolding quarterIn
+quarter-part w n q p x h e = e ∙ ap (λ (k : ℕ). take k (drop (p * 1024) n)) (add-sub-cancel-left (p * 1024) 1024) ∙ rw h
+
+module _ (d : Board) (n : List ℕ) (q : ℕ) (x : List ℕ) where
+  pub quarter-1 : (length n ≡ 2048 → ⊥) → x ≡ [] → x ≡ quarterPart d n q
+  unfolding quarterPart
+  quarter-1 h e = e ∙ rw (ne-eqb (length n) 2048 h)
+
+  pub quarter-2 : length n ≡ 2048 → x ≡ quarterIn (d .wiring) n q → x ≡ quarterPart d n q
+  unfolding quarterPart
+  quarter-2 h e = e ∙ rw (eq-eqb (length n) 2048 h)
+
+pub ruleset quarter-cases = (quarter-1, quarter-2)

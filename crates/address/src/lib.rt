@@ -1,10 +1,10 @@
-// Where an address leads, and the part of a table that a tile is. Inner functions, not public calls.
-// wiring_number, page, cell, palette_cell, lead; tile.
+// Where an address leads, the part of a table that a tile is, and the page of a quarter. Inner functions, not public calls.
+// wiring_number, page, cell, palette_cell, lead; tile; quarter.
 ghost use mathlib.Core.Path.{_≡_};
 ghost use Prim.Native.Nat.{_<_, _%_};
 ghost use lib.ListN.{length};
-ghost use Rattle.model.specs.Unit.{patternLength};
-ghost use Rattle.model.specs.Address.{wiringNumber, pageAt, cellOf, paletteCell, placeOf, tileIn, tilePart};
+ghost use Rattle.model.specs.Unit.{patternLength, nametableLength};
+ghost use Rattle.model.specs.Address.{wiringNumber, pageAt, cellOf, paletteCell, placeOf, tileIn, tilePart, quarterIn, quarterPart};
 use model::Board;
 use model::Place;
 use model::Wiring;
@@ -108,4 +108,24 @@ pub fn tile<'a>(left: &'a [u8], right: &'a [u8], second: bool, k: u8) -> &'a [u8
         return tile_in(right, k);
     }
     tile_in(left, k)
+}
+
+// The page of a quarter.
+fn quarter_in(board: Board, nametables: &[u8], q: u8) -> &[u8]
+    requires { ⌜ length (now nametables) ≡ nametableLength board ⌝ }
+    ensures { λ r. ⌜ now r ≡ quarterIn (board .wiring) (now (nametables .entry)) q ⌝ }
+{
+    let w = board.wiring;
+    let at = page(w, q as usize % 4) * 1024;
+    &nametables[at..at + 1024]
+}
+
+// The part of nametable RAM that quarter q modulo 4 shows; an empty part where nametable RAM has another length.
+pub fn quarter(board: Board, nametables: &[u8], q: u8) -> &[u8]
+    ensures { λ r. ⌜ now r ≡ quarterPart board (now (nametables .entry)) q ⌝ }
+{
+    if nametables.len() != 2048 {
+        return &nametables[0..0];
+    }
+    quarter_in(board, nametables, q)
 }

@@ -28,6 +28,7 @@ use Rattle.model.proofs.Kept.{done-num}
 use Rattle.model.proofs.Good.{call-good}
 use Rattle.model.proofs.Reloaded.{idle, demand3}
 use Rattle.model.proofs.Needed.{seven-steps, nine-calls, needed}
+use Rattle.model.proofs.Text.{quarter-pages, rows, pages, screens}
 use Rattle.model.proofs.Records.{saves, refused-bytes, exported-call, kept, ends-kept, pair-kept, record-demand3}
 
 -- REFUSALS
@@ -336,4 +337,8 @@ theorems =
       mirrors = mirrors;
       steps = steps;
       played-records = played-records;
+      quarter-pages = quarter-pages;
+      rows = rows;
+      pages = pages;
+      screens = screens;
     }

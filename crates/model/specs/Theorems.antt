@@ -3,17 +3,21 @@ use mathlib.Core.Path.{_≡_}
 use mathlib.Core.Bool.{true, false}
 use mathlib.Core.List.{List, [], _∷_, _++_}
 use mathlib.Core.Logic.{_⊎_}
-use Prim.Native.Nat.{ℕ, _+_, _*_, _≤_, _<_}
+use Prim.Native.Nat.{ℕ, _+_, _*_, _%_, _≤_, _<_}
 use lib.ListN.{length}
+use Rattle.model.specs.declared.Board.{Board}
 use Rattle.model.specs.declared.Ppu.{Ppu}
-use Rattle.model.specs.Unit.{Memory, withCells, withLine, accessMemory, dmaMemory, lineMemory, State, state, zeroUnit, recordLength, isWellFormed, isDrawing}
+use Rattle.model.specs.Unit.{nametableLength, Memory, withCells, withLine, accessMemory, dmaMemory, lineMemory, State, state, zeroUnit, recordLength, isWellFormed, isDrawing}
 use Rattle.model.specs.Record.{at, recordOf}
-use Rattle.model.specs.Address.{withOam, withPalette}
+use Rattle.model.specs.Address.{nametableByte, withOam, withPalette, quarterPart}
 use Rattle.model.specs.Ports.{portOf}
 use Rattle.model.specs.Calls.{made, loadCall, saved, saveCall, refusal, Lent, own, other, Call, readCall, writeCall, dmaCall, lineCall, runCall, Outcome, outcome, longFor, inRange, blocked, refusalOf, done, onLent, lentOf, given, call, packed, Exported, exported, onRecord, exportedCall}
 use Rattle.model.specs.Reload.{end, total, trace, dataCall, At, Places, Bytes, seven, joined, reload, step, without, Pair, Alike, Within, bytesOnly, Held, LentFits, Fits, AllFit, Needed, endOf}
 use Rattle.model.specs.RecordLog.{RecordState, recordState, recordGiven, recordCall, recordTrace, recordSystem, RecordPair, RecordNeeded, RecordAlike}
 use Rattle.model.specs.Log.{recordKnown, recordCall as recordsCall, playCall, exportedPlay}
+use Rattle.model.specs.Scroll.{nametable, row, column}
+use Rattle.model.specs.Background.{tileAt}
+use Rattle.model.specs.Text.{nametablePage, tableLength, rowsLength, characterOf, rowsOf, bareCount, pageOf, textAnswer, written, textCall, pageCall, writtenForC, exportedText}
 
 -- every number of a list is a byte
 abbrev pub AreBytes : List ℕ → Type 0
@@ -157,6 +161,54 @@ pub record PlayedRecords : Type 0 where
       → exportedPlay log (recordOf u) m ≡ (let o : Outcome = playCall log (state u m) in exported (packed (o .answer)) (recordOf (o .after .unit)) (o .after .memory))
   pub runs-on : (h l : ℕ) → recordsCall 2 (h * 256 + l) 0 ≡ runCall own 0 (h * 256 + l)
 
+-- DOCUMENT 02, REQUEST 10. The page of a quarter: byte k of it is the one that answers at $2000 + 1024 q + k, with q modulo 4
+pub record QuarterPages (d : Board) (n : List ℕ) (q : ℕ) : Type 0 where
+  pub quarter-byte : length n ≡ nametableLength d → (k : ℕ) → k < nametablePage → at (quarterPart d n q) k ≡ nametableByte (d .wiring) n (8192 + 1024 * (q % 4) + k)
+  pub quarter-length : length n ≡ nametableLength d → length (quarterPart d n q) ≡ nametablePage
+  pub quarter-empty : (length n ≡ nametableLength d → ⊥) → quarterPart d n q ≡ []
+
+-- a page, a table and rows of the lengths that the calls of the text layer take
+abbrev pub TextLengths : List ℕ → List ℕ → List ℕ → Type 0
+TextLengths p t r = (length p ≡ nametablePage) × (length t ≡ tableLength) × (length r ≡ rowsLength)
+
+-- a character that is not byte 0 and stands in the table
+abbrev pub Stands : List ℕ → ℕ → Type 0
+Stands t c = (c ≡ 0 → ⊥) × (i : ℕ) × (i < length t) × (at t i ≡ c)
+
+-- the text of a page p by a table t, over rows r: 2 by length and nothing else; a tile without a character becomes a space and is counted
+pub record Rows (p t r : List ℕ) : Type 0 where
+  pub text-2 : (TextLengths p t r → ⊥) → textCall p t r ≡ written (textAnswer 2 0) r
+  pub text-0 : TextLengths p t r → textCall p t r ≡ written (textAnswer 0 (bareCount t p)) (rowsOf t p)
+  pub rows-long : length (rowsOf t p) ≡ rowsLength
+  pub row-character : (k : ℕ) → k < rowsLength → (at t (at p k) ≡ 0 → ⊥) → at (rowsOf t p) k ≡ at t (at p k)
+  pub row-space : (k : ℕ) → k < rowsLength → at t (at p k) ≡ 0 → at (rowsOf t p) k ≡ 32
+  pub none-bare : ((k : ℕ) → k < rowsLength → at t (at p k) ≡ 0 → ⊥) → bareCount t p ≡ 0
+  pub one-more : (p′ : List ℕ) (k : ℕ) → k < rowsLength → ((j : ℕ) → j < rowsLength → (j ≡ k → ⊥) → at p′ j ≡ at p j)
+      → (at t (at p k) ≡ 0 → ⊥) → at t (at p′ k) ≡ 0 → bareCount t p′ ≡ bareCount t p + 1
+  pub text-refused : (textCall p t r .answer .number ≡ 0 → ⊥) → exportedText (textCall p t r) ≡ writtenForC (textCall p t r .answer .number) r
+
+-- the page of rows r by a table t, over a page p: 2 by length, then 8 for a character that is byte 0 or isn't in the table; else each tile
+-- byte has its character and no lower tile has, the attribute bytes stay, and the rows of that page are the rows given
+pub record Pages (r t p : List ℕ) : Type 0 where
+  pub page-2 : (TextLengths p t r → ⊥) → pageCall r t p ≡ written (textAnswer 2 0) p
+  pub page-8 : TextLengths p t r → (k : ℕ) → k < rowsLength → (Stands t (at r k) → ⊥) → pageCall r t p ≡ written (textAnswer 8 0) p
+  pub page-0 : TextLengths p t r → ((k : ℕ) → k < rowsLength → Stands t (at r k)) → pageCall r t p ≡ written (textAnswer 0 0) (pageOf r t p)
+  pub tile-has : (k : ℕ) → k < rowsLength → Stands t (at r k) → at t (at (pageOf r t p) k) ≡ at r k
+  pub tile-lowest : (k : ℕ) → k < rowsLength → (j : ℕ) → j < at (pageOf r t p) k → at t j ≡ at r k → ⊥
+  pub attributes-stay : (k : ℕ) → rowsLength ≤ k → at (pageOf r t p) k ≡ at p k
+  pub page-long : length p ≡ nametablePage → length (pageOf r t p) ≡ nametablePage
+  pub rows-back : length r ≡ rowsLength → ((k : ℕ) → k < rowsLength → Stands t (at r k)) → rowsOf t (pageOf r t p) ≡ r
+  pub calls-back : pageCall r t p .answer .number ≡ 0 → (r′ : List ℕ) → length r′ ≡ rowsLength → textCall (pageCall r t p .bytes) t r′ ≡ written (textAnswer 0 0) r
+  pub page-refused : (pageCall r t p .answer .number ≡ 0 → ⊥) → exportedText (pageCall r t p) ≡ writtenForC (pageCall r t p .answer .number) p
+
+-- what is read is what is shown: the character in row r and column c of a quarter's page is that of the tile that the background fetches there,
+-- at v = 1024 q + 32 r + c, or at any v with that quarter, row and column
+pub record Shown (d : Board) (n t : List ℕ) : Type 0 where
+  pub shown : length n ≡ nametableLength d → (q r c : ℕ) → q < 4 → r < 30 → c < 32
+      → at (rowsOf t (quarterPart d n q)) (32 * r + c) ≡ characterOf t (tileAt (d .wiring) n (1024 * q + 32 * r + c))
+  pub shown-at : length n ≡ nametableLength d → (v : ℕ) → row v < 30
+      → at (rowsOf t (quarterPart d n (nametable v))) (32 * row v + column v) ≡ characterOf t (tileAt (d .wiring) n v)
+
 pub record Theorems : Type 0 where
   pub refusals : Refusals
   pub round-trips : RoundTrips
@@ -170,3 +222,7 @@ pub record Theorems : Type 0 where
   pub mirrors : Mirrors
   pub steps : (a : Places) (b : Bytes) → Steps a b
   pub played-records : PlayedRecords
+  pub quarter-pages : (d : Board) (n : List ℕ) (q : ℕ) → QuarterPages d n q
+  pub rows : (p t r : List ℕ) → Rows p t r
+  pub pages : (r t p : List ℕ) → Pages r t p
+  pub screens : (d : Board) (n t : List ℕ) → Shown d n t
