@@ -1,5 +1,6 @@
 #!/usr/bin/env python3
-"""Writes examples/picture.log: a log that fills pattern memory, nametable, palette and OAM through the ports and runs three pictures.
+"""Writes examples/picture.log: a log that fills pattern memory, nametable, palette and OAM through the ports and runs three pictures; and
+examples/picture.tbl, the characters of its tiles, for tools/ppu-text.
 
 The picture says BLOOMCHISEL 2C02, with a row of sprites below it. Play it with ./play examples/picture.log.
 """
@@ -68,3 +69,6 @@ for _ in range(3):
     read(2)
     run(20)
 Path(__file__).with_name("picture.log").write_bytes(log)
+table = ["# The font of picture.log: tile, character. Tile 00 is empty.", "00= "]
+table += [f"{tile:02X}={letter}" for letter, tile in tiles.items()]
+Path(__file__).with_name("picture.tbl").write_text("\n".join(table) + "\n")

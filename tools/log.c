@@ -99,22 +99,15 @@ static void show(FILE *in, FILE *out, const Options *options)
 
 /* the line that is read, for messages */
 static struct {
-    const char *name;
+    const char *path;
     unsigned long number, cut; /* cut: the line of a record cut short, 0 if there was none */
 } text;
 
-/* Ends with BAD_LOG. The message begins with the line's place, as an editor looks for it; of a word it shows what can be read. */
+/* Ends with BAD_LOG at this line. */
 static void wrong(const char *what, const char *word)
 {
-    static char place[4096];
-    char shown[40];
-    size_t i;
-    for (i = 0; i + 1 < sizeof shown && word[i]; i++)
-        shown[i] = isprint((unsigned char)word[i]) ? word[i] : '?';
-    shown[i] = 0;
-    snprintf(place, sizeof place, "%s:%lu", text.name, text.number);
-    tool_name = place;
-    give_up(BAD_LOG, "%s%s%s", shown, *shown ? ": " : "", what);
+    char part[SHOWN_LENGTH];
+    give_up_at(BAD_LOG, text.path, text.number, "%s%s%s", shown(part, word), *word ? ": " : "", what);
 }
 
 static unsigned hexadecimal(const char *word, size_t most, const char *what)
@@ -257,7 +250,7 @@ int main(int count, char **arguments)
     if (!shows && strcmp(options.output, "-") == 0 && isatty(STDOUT_FILENO))
         give_up(BAD_USAGE, "a log is not for a terminal: name a file with -o");
     FILE *in = open_input(options.input), *out = open_whole(options.output);
-    text.name = input_name(options.input);
+    text.path = options.input;
     if (shows)
         show(in, out, &options);
     else

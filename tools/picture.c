@@ -5,14 +5,12 @@
 #include <stdlib.h>
 #include <string.h>
 #include <sys/stat.h>
-#include <time.h>
 #include <unistd.h>
 #include "encode.h"
-#include "play.h"
+#include "screens.h"
 #include "tool.h"
 
 #define NAME_LENGTH 4096
-#define SHOWN_REFUSALS 10
 #define PICTURE_SIZE (PICTURE_WIDTH * PICTURE_HEIGHT)
 
 static const char help[] =
@@ -56,11 +54,7 @@ static const char help[] =
 static const char help_numbers[] =
     "\n"
     "A record that is refused is reported on standard error by its place in the log, counted from 1, and its number:\n"
-    "  1  the address is outside $2000-$3FFF\n"
-    "  2  a lent memory, or the unit's record, has the wrong length\n"
-    "  3  the unit or its board is not well formed\n"
-    "  4  a read of port 4 or 7, or a write of port 7, while drawing\n"
-    "  5  the record has an unknown kind, a last byte that must be 0 and is not, or is cut short\n"
+    HELP_NUMBERS
     "The play goes on, but it ends at a 5; pictures before it are kept. The first 10 are shown, the others counted.\n"
     "\n"
     "Exit status\n"
@@ -74,10 +68,8 @@ static const char help_numbers[] =
     "Example: ppu-picture --palette examples/2c02.pal --scale 2 -o pictures examples/picture.log\n";
 
 typedef struct {
-    const char *log, *output;
-    unsigned long every;
-    int last, strict, summary;
-    uint8_t board;
+    const char *output;
+    int summary;
     Form form;
 } Options;
 
@@ -89,13 +81,9 @@ typedef struct {
 /* what the play has come to */
 static struct {
     Options options;
+    Playing playing;
     Line drawing[PICTURE_HEIGHT], whole[PICTURE_HEIGHT]; /* the picture being drawn; with --last, the last that was whole */
-    unsigned long pictures, written, refused[REFUSALS];
-    Record record;
-    long long size; /* of the log; -1 if it is no plain file */
 } at;
-
-static int is_terminal;
 
 /* NAME of the log: neither its folder nor its ending */
 static void stem_of(char *stem, const char *log)
@@ -120,12 +108,12 @@ static void name_picture(char *name, unsigned long number)
     const char *output = at.options.output;
     char stem[NAME_LENGTH];
     int length;
-    if (output && (strcmp(output, "-") == 0 || (ends_in_png(output) && at.options.last))) {
+    if (output && (strcmp(output, "-") == 0 || (ends_in_png(output) && at.playing.last))) {
         length = snprintf(name, NAME_LENGTH, "%s", output);
     } else if (output && ends_in_png(output)) {
         length = snprintf(name, NAME_LENGTH, "%.*s-%04lu.png", (int)strlen(output) - 4, output, number);
     } else {
-        stem_of(stem, at.options.log);
+        stem_of(stem, at.playing.log);
         length = snprintf(name, NAME_LENGTH, "%s%s%s-%04lu.png", output ? output : "", output ? "/" : "", stem, number);
     }
     if (length >= NAME_LENGTH)
@@ -135,7 +123,7 @@ static void name_picture(char *name, unsigned long number)
 static void make_folder(void)
 {
     const char *output = at.options.output;
-    if (at.written || !output || strcmp(output, "-") == 0 || ends_in_png(output))
+    if (at.playing.written || !output || strcmp(output, "-") == 0 || ends_in_png(output))
         return;
     if (mkdir(output, 0777) && errno != EEXIST)
         give_up(BAD_FILE, "%s: the folder cannot be made: %s", output, strerror(errno));
@@ -191,29 +179,7 @@ static void write_picture(const Line *lines, unsigned long number)
     name_picture(name, number);
     fwrite(png, 1, length, open_whole(name));
     close_whole();
-    at.written++;
-}
-
-/* A bar on a terminal, ten times a second at most. */
-static void show_progress(void)
-{
-    static const char full[] = "##############################", empty[] = "..............................";
-    static struct timespec last;
-    struct timespec now;
-    if (!is_terminal)
-        return;
-    clock_gettime(CLOCK_MONOTONIC, &now);
-    if ((now.tv_sec - last.tv_sec) * 10 + (now.tv_nsec - last.tv_nsec) / 100000000 < 1)
-        return;
-    last = now;
-    fprintf(stderr, "\r\033[K%s: ", input_name(at.options.log));
-    if (at.size > 0) {
-        int percent = (int)(at.record.number * 400.0 / (double)at.size), part = percent * 30 / 100;
-        part = part > 30 ? 30 : part;
-        fprintf(stderr, "[%.*s%.*s] %d %%, ", part, full, 30 - part, empty, percent > 100 ? 100 : percent);
-    }
-    fprintf(stderr, "%lu pictures", at.pictures);
-    bar_shown = 1;
+    at.playing.written++;
 }
 
 static void line_drawn(void *context, const Machine *machine, unsigned line)
@@ -225,101 +191,27 @@ static void line_drawn(void *context, const Machine *machine, unsigned line)
     to->mask = machine->unit[PPU_AT_MASK];
     if (line != PICTURE_HEIGHT - 1)
         return;
-    at.pictures++;
-    if (at.options.last)
+    if (at.playing.last)
         memcpy(at.whole, at.drawing, sizeof at.whole);
-    else if (at.pictures % at.options.every == 0)
-        write_picture(at.drawing, at.pictures);
-    show_progress();
+    if (take_picture(&at.playing))
+        write_picture(at.drawing, at.playing.pictures);
 }
 
-static unsigned long all_refused(void)
+/* a line on standard output, if it was asked for */
+static void print_summary(void)
 {
-    unsigned long sum = 0;
-    for (int i = 1; i < REFUSALS; i++)
-        sum += at.refused[i];
-    return sum;
-}
-
-static void report_refusal(unsigned number)
-{
-    char why[200];
-    at.refused[number < REFUSALS ? number : 0]++;
-    if (all_refused() > SHOWN_REFUSALS && number != PPU_BAD_REQUEST)
-        return;
-    explain(why, sizeof why, &at.record, number);
-    say("%s: record %lu: refused %u: %s", input_name(at.options.log), at.record.number, number, why);
-}
-
-static void report_others(void)
-{
-    unsigned long sum = all_refused();
-    if (sum > SHOWN_REFUSALS)
-        say("%s: %lu records refused in all: %lu with 1, %lu with 2, %lu with 3, %lu with 4, %lu with 5", input_name(at.options.log), sum,
-            at.refused[1], at.refused[2], at.refused[3], at.refused[4], at.refused[5]);
-}
-
-static Machine start_unit(void)
-{
-    Machine machine = { .drawn = line_drawn };
-    unsigned number = start(&machine, at.options.board);
-    if (number == PPU_BAD_UNIT)
-        give_up(BAD_USAGE, "--board %u: refused 3: not a board byte, 0 to 3 or 8 to 11 is", at.options.board);
-    return machine;
-}
-
-static void play_log(Machine *machine)
-{
-    struct stat status;
-    FILE *log = open_input(at.options.log);
-    at.size = fstat(fileno(log), &status) == 0 && S_ISREG(status.st_mode) ? (long long)status.st_size : -1;
-    unsigned number = 0;
-    while (number != PPU_BAD_REQUEST && next_record(log, &at.record)) {
-        number = ppu_number(play(machine, &at.record));
-        if (number)
-            report_refusal(number);
-        if (at.record.number % 65536 == 0)
-            show_progress();
-    }
-    close_input(log, at.options.log);
-}
-
-/* Why there is no picture, if there is none; what ended the play has been said. */
-static int report_end(const Machine *machine)
-{
-    const char *log = input_name(at.options.log);
-    if (at.refused[PPU_BAD_REQUEST])
-        return BAD_LOG;
-    if (at.written)
-        return at.options.strict && all_refused() ? REFUSED : DONE;
-    if (at.record.number == 1)
-        say("%s: the log is empty, no picture", log);
-    else if (!at.pictures)
-        say("%s: no whole picture: the log ends before line %u of the first", log, next_line(machine));
-    else
-        say("%s: no picture: it has %lu whole pictures, --every %lu takes none of them", log, at.pictures, at.options.every);
-    return NO_PICTURE;
-}
-
-/* the last line on a terminal, in place of the bar; on standard output if it was asked for */
-static void report_sum(void)
-{
-    if (is_terminal && at.written)
-        say("%s: %lu of %lu pictures written", input_name(at.options.log), at.written, at.pictures);
+    const Playing *p = &at.playing;
     if (at.options.summary)
-        printf("pictures %lu of %lu, records %lu, refused 1:%lu 2:%lu 3:%lu 4:%lu 5:%lu\n", at.written, at.pictures,
-               at.record.number - !at.record.length, at.refused[1], at.refused[2], at.refused[3], at.refused[4], at.refused[5]);
+        printf("pictures %lu of %lu, records %lu, refused 1:%lu 2:%lu 3:%lu 4:%lu 5:%lu\n", p->written, p->pictures,
+               p->record.number - !p->record.length, p->refused[1], p->refused[2], p->refused[3], p->refused[4], p->refused[5]);
 }
 
 static const uint8_t *load_palette(const char *path)
 {
-    static uint8_t palette[3 * COLOURS + 1];
-    FILE *file = open_input(path);
-    size_t length = fread(palette, 1, sizeof palette, file);
-    close_input(file, path);
-    if (length != 3 * COLOURS)
-        give_up(BAD_FILE, "%s: not a palette of 64 colours: it has %s192 bytes", input_name(path),
-                length > 3 * COLOURS ? "more than " : "fewer than ");
+    static uint8_t palette[3 * COLOURS];
+    int length = read_exactly(path, palette, sizeof palette);
+    if (length)
+        give_up(BAD_FILE, "%s: not a palette of 64 colours: it has %s192 bytes", input_name(path), length > 0 ? "more than " : "fewer than ");
     return palette;
 }
 
@@ -327,28 +219,24 @@ static void set_option(int option, const char *argument)
 {
     Options *o = &at.options;
     switch (option) {
-    case 'e': o->every = number_of("--every", argument, 1, 1000000000); break;
-    case 'l': o->last = 1; break;
     case 's': o->form.scale = (unsigned)number_of("--scale", argument, 1, MOST_SCALE); break;
     case 'p': o->form.palette = load_palette(argument); break;
     case 'o': o->output = argument; break;
-    case 'b': o->board = (uint8_t)number_of("--board", argument, 0, 255); break;
-    case 'x': o->strict = 1; break;
     case 'y': o->summary = 1; break;
     case 'h': fputs(help, stdout); fputs(help_numbers, stdout); exit(DONE);
     case 'V': puts("ppu-picture " PPU_VERSION); exit(DONE);
+    default: set_playing(&at.playing, option, argument);
     }
 }
 
-static void check_options(int every_given)
+static void check_options(void)
 {
     const Options *o = &at.options;
     int to_standard_output = o->output && strcmp(o->output, "-") == 0;
-    if (o->last && every_given)
-        give_up(BAD_USAGE, "--every and --last: only one of them can be given");
+    check_playing(&at.playing);
     if (o->output && !*o->output)
         give_up(BAD_USAGE, "--output: the name is empty");
-    if (to_standard_output && (!o->last || o->summary))
+    if (to_standard_output && (!at.playing.last || o->summary))
         give_up(BAD_USAGE, "--output -: only with --last, and without --summary");
 }
 
@@ -359,35 +247,33 @@ static void read_options(int count, char **arguments)
         { "board", 1, NULL, 'b' }, { "strict", 0, NULL, 'x' }, { "summary", 0, NULL, 'y' }, { "help", 0, NULL, 'h' },
         { "version", 0, NULL, 'V' }, { NULL, 0, NULL, 0 },
     };
-    int option, every_given = 0;
+    int option;
     while ((option = getopt_long(count, arguments, ":o:hV", names, NULL)) != -1) {
         if (option == '?' || option == ':')
             bad_option(option, arguments);
         set_option(option, optarg);
-        every_given |= option == 'e';
     }
-    check_options(every_given);
+    check_options();
     if (optind == count)
         give_up(BAD_USAGE, "no log given; --help says how");
     if (optind + 1 < count)
         give_up(BAD_USAGE, "%s: one log at a time; ppu-batch takes many", arguments[optind + 1]);
-    at.options.log = arguments[optind];
+    at.playing.log = arguments[optind];
 }
 
 int main(int count, char **arguments)
 {
     tool_name = "ppu-picture";
-    is_terminal = isatty(STDERR_FILENO);
-    at.options = (Options){ .every = 1, .board = 9, .form = { .scale = 1 } };
+    at.options.form.scale = 1;
+    at.playing = all_pictures();
+    at.playing.bar = isatty(STDERR_FILENO);
     opterr = 0;
     read_options(count, arguments);
-    Machine machine = start_unit();
-    play_log(&machine);
-    if (at.options.last && at.pictures)
-        write_picture(at.whole, at.pictures);
-    report_others();
-    int status = report_end(&machine);
-    report_sum();
+    play_log(&at.playing, line_drawn);
+    if (at.playing.last && at.playing.pictures)
+        write_picture(at.whole, at.playing.pictures);
+    int status = report_end(&at.playing);
+    print_summary();
     if (fflush(stdout))
         give_up(BAD_FILE, "standard output: %s", strerror(errno));
     return status;

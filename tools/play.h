@@ -1,4 +1,4 @@
-/* A log of accesses and its play on a unit that owns its memory: what ppu-picture and ppu-log share. */
+/* A log of accesses and its play on a unit that owns its memory: what the commands here share. */
 #ifndef PLAY_H
 #define PLAY_H
 

@@ -1,4 +1,5 @@
 #define _XOPEN_SOURCE 700
+#include <ctype.h>
 #include <errno.h>
 #include <fcntl.h>
 #include <getopt.h>
@@ -36,10 +37,17 @@ static void end_by(int signal_number)
     raise(signal_number);
 }
 
+void clear_bar(void)
+{
+    if (bar_shown)
+        fputs("\r\033[K", stderr);
+    bar_shown = 0;
+}
+
 static void print_message(const char *format, va_list arguments)
 {
-    fprintf(stderr, "%s%s: ", bar_shown ? "\r\033[K" : "", tool_name);
-    bar_shown = 0;
+    clear_bar();
+    fprintf(stderr, "%s: ", tool_name);
     vfprintf(stderr, format, arguments);
     fputc('\n', stderr);
 }
@@ -60,6 +68,28 @@ void give_up(int status, const char *format, ...)
     print_message(format, arguments);
     va_end(arguments);
     exit(status);
+}
+
+void give_up_at(int status, const char *path, unsigned long line, const char *format, ...)
+{
+    static char place[4096];
+    va_list arguments;
+    remove_part();
+    snprintf(place, sizeof place, "%s:%lu", input_name(path), line);
+    tool_name = place;
+    va_start(arguments, format);
+    print_message(format, arguments);
+    va_end(arguments);
+    exit(status);
+}
+
+const char *shown(char text[SHOWN_LENGTH], const char *word)
+{
+    size_t i;
+    for (i = 0; i + 1 < SHOWN_LENGTH && word[i]; i++)
+        text[i] = (char)(isprint((unsigned char)word[i]) ? word[i] : '?');
+    text[i] = 0;
+    return text;
 }
 
 unsigned long number_of(const char *option, const char *text, unsigned long least, unsigned long most)
@@ -100,6 +130,15 @@ void close_input(FILE *file, const char *path)
         give_up(BAD_FILE, "%s: %s", input_name(path), strerror(errno));
     if (file != stdin)
         fclose(file);
+}
+
+int read_exactly(const char *path, void *bytes, size_t length)
+{
+    FILE *file = open_input(path);
+    size_t got = fread(bytes, 1, length, file);
+    int more = got == length && fgetc(file) != EOF;
+    close_input(file, path);
+    return got < length ? -1 : more;
 }
 
 /* A device or a pipe must keep its place: nothing is renamed over it. */
