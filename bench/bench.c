@@ -5,9 +5,9 @@
 #define _POSIX_C_SOURCE 199309L
 #include <stdio.h>
 #include <stdlib.h>
-#include <time.h>
 #include "drawers.h"
 #include "screens.h"
+#include "shared.h"
 
 /* MEMORY, as a drawer's call is lent it */
 #define TABLES m.left, sizeof m.left, m.right, sizeof m.right, m.nametables, sizeof m.nametables, m.oam, sizeof m.oam
@@ -199,13 +199,6 @@ static void all_agree(const Work *work, int count)
 }
 
 /* TIME */
-static double now(clockid_t clock)
-{
-    struct timespec t;
-    clock_gettime(clock, &t);
-    return (double)t.tv_sec * 1e9 + (double)t.tv_nsec;
-}
-
 /* the least that each piece of work took */
 static double of_screens[SCREENS][DRAWERS], of_calls[CALLS][DRAWERS], of_runs[RUNS][DRAWERS];
 

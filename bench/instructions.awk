@@ -1,6 +1,6 @@
 # The tables of instructions. First file: the pieces of work in their order, as `bench count` prints them: kind, name, calls or lines.
 # Then callgrind's part for each, with names written out: where a function is called, the line after `calls=` has what the call cost.
-# drawers: ppu plain_gcc table_gcc ..; a drawer's functions are ppu_line, ppu_run, ..
+# drawers: ppu plain_gcc table_gcc ..; a drawer's functions are ppu_line, ppu_run, .. A table without work is left out.
 BEGIN {
     FS = "\t"
     count = split(drawers, drawer, " ")
@@ -19,7 +19,7 @@ file == 1 {
 }
 # a drawer's call that it makes itself, as a peer's play its read, is in the cost of the outer one
 function whose(function_name) {
-    return match(function_name, /_(line|run|read|write|dma|play)$/) && substr(function_name, 1, RSTART - 1) in known ? substr(function_name, 1, RSTART - 1) : ""
+    return match(function_name, /_(line|run|read|write|dma|play|text|page)$/) && substr(function_name, 1, RSTART - 1) in known ? substr(function_name, 1, RSTART - 1) : ""
 }
 /^fn=/ {
     caller = whose(substr($0, 4))
@@ -33,7 +33,11 @@ function whose(function_name) {
     if (callee != "" && caller == "")
         cost[file - 1, callee] += words[2]
 }
-function table(which, first, title, by, i, k, head, rule) {
+function table(which, first, title, by, i, k, head, rule, any) {
+    for (i = 1; i <= works; i++)
+        any = any || kind[i] == which
+    if (!any)
+        return
     for (k = 1; k <= by; k++) {
         head = head " " drawer[k] " |"
         rule = rule "---|"
@@ -51,5 +55,6 @@ function table(which, first, title, by, i, k, head, rule) {
 END {
     table("screen", "screen", "instructions a line", count)
     table("call", "call", "instructions a call", count)
+    table("page", "call", "instructions a page", count)
     table("run", "lines a call", "instructions a line of `ppu_run`, pictures with about three sprites a line", 1)
 }

@@ -1,4 +1,4 @@
-/* The calls of the peer drawers: those of include/ppu.h with the prefix PFX in place of ppu_. */
+/* The calls of the peers: those of include/ppu.h with the prefix PFX in place of ppu_. */
 #include <stddef.h>
 #include <stdint.h>
 typedef uint8_t u8; typedef uint16_t u16; typedef uint32_t u32; typedef uint64_t u64;
@@ -14,3 +14,5 @@ typedef uint8_t u8; typedef uint16_t u16; typedef uint32_t u32; typedef uint64_t
 #define ppu_line PEER_CAT(PFX, line)
 #define ppu_run PEER_CAT(PFX, run)
 #define ppu_play PEER_CAT(PFX, play)
+#define ppu_text PEER_CAT(PFX, text)
+#define ppu_page PEER_CAT(PFX, page)

@@ -6,6 +6,7 @@
 #include <stdint.h>
 #include <string.h>
 #include "ppu.h"
+#include "shared.h"
 
 typedef struct {
     uint8_t left[PPU_PATTERN_LENGTH], right[PPU_PATTERN_LENGTH], nametables[PPU_NAMETABLE_LENGTH], oam[PPU_OAM_LENGTH];
@@ -17,21 +18,6 @@ static _Alignas(64) Machine m;
 /* the record before the first line, and the lines that are drawn from there */
 static uint8_t start[PPU_RECORD_LENGTH];
 static unsigned lines;
-
-static uint64_t seed;
-
-/* the next of a row of numbers, below a bound */
-static unsigned any(unsigned below)
-{
-    seed = seed * 6364136223846793005u + 1442695040888963407u;
-    return (unsigned)(seed >> 33) % below;
-}
-
-static void scatter(uint8_t *bytes, unsigned length)
-{
-    for (unsigned i = 0; i < length; i++)
-        bytes[i] = (uint8_t)any(256);
-}
 
 static void set_word(uint8_t *record, int at, unsigned number)
 {
