@@ -2,7 +2,7 @@
 # What a C programmer meets first: `make install` into a folder, the examples compiled against it by pkg-config, the installed player, and
 # the viewer's window on an X server without a screen (Xvfb), looked at pixel by pixel and driven by keys.
 # tests/examples.sh --store stores the pictures of tests/viewer anew instead of comparing with them: look at them afterwards.
-# It takes the archive that PPU_ARCHIVE names, else target/staticlib/libppu.a, and the player target/bin/player.
+# It takes the archives that PPU_ARCHIVE and PPU_TEXT_ARCHIVE name, else target/staticlib/libppu.a and libtext.a, and the player target/bin/player.
 set -euo pipefail
 cd "$(dirname "$0")/.."
 root=$PWD
@@ -44,20 +44,23 @@ look() { python3 "$stored/window.py" "$@"; }
 has() { command -v "$1" >/dev/null; }
 
 # The Makefile: what is installed where, and that nothing of it stays.
-make_as_user() { make --no-print-directory -s "$@" ARCHIVE="$archive" PLAYER="$player"; }
+make_as_user() { make --no-print-directory -s "$@" ARCHIVE="$archive" TEXT_ARCHIVE="$text_archive" PLAYER="$player"; }
 
 test_install() {
     make_as_user install PREFIX="$prefix"
-    local name names=(include/ppu.h lib/libppu.a lib/pkgconfig/ppu.pc bin/ppu-player)
-    [ ! -e tools/build ] || names+=(bin/ppu-picture bin/ppu-log bin/ppu-batch)
+    local name names=(include/ppu.h lib/libppu.a lib/libppu-text.a lib/pkgconfig/ppu.pc lib/pkgconfig/ppu-text.pc bin/ppu-player)
+    [ ! -e tools/build ] || names+=(bin/ppu-picture bin/ppu-text bin/ppu-log bin/ppu-batch)
     [ "$(cd "$prefix" && find . -type f | sort)" = "$(printf './%s\n' "${names[@]}" | sort)" ] || fail "make install has put $(find "$prefix" -type f)"
     cmp include/ppu.h "$prefix/include/ppu.h"
     cmp "$archive" "$prefix/lib/libppu.a"
+    cmp "$text_archive" "$prefix/lib/libppu-text.a"
     "$prefix/bin/ppu-player" <examples/paper.log >"$out/printed"
     "$player" <examples/paper.log | cmp - "$out/printed" || fail "the installed player"
     [ -s "$out/printed" ] || fail "the installed player has printed nothing"
     make_as_user install PREFIX=/usr DESTDIR="$out/package"
-    grep -qx 'prefix=/usr' "$out/package/usr/lib/pkgconfig/ppu.pc" || fail "ppu.pc under DESTDIR does not say PREFIX"
+    for name in ppu ppu-text; do
+        grep -qx 'prefix=/usr' "$out/package/usr/lib/pkgconfig/$name.pc" || fail "$name.pc under DESTDIR does not say PREFIX"
+    done
     make_as_user uninstall PREFIX=/usr DESTDIR="$out/package"
     [ -z "$(find "$out/package" -type f)" ] || fail "make uninstall leaves $(find "$out/package" -type f)"
     if make_as_user install PREFIX="$out/a b" 2>"$out/errors"; then fail "make install into a folder with a space in its name"; fi
@@ -73,12 +76,18 @@ compile() {
         fail "$compiler on examples/$example.c"
 }
 
+test_packages() {
+    local name flags
+    for name in ppu ppu-text; do
+        flags=$(pkg-config --cflags --libs "$name" | xargs)
+        [ "$flags" = "-I$prefix/include -L$prefix/lib -l$name" ] || fail "pkg-config $name: $flags"
+        [ "$(pkg-config --modversion "$name")" = "$(sed -n 's/^#define PPU_VERSION "\(.*\)"$/\1/p' include/ppu.h)" ] || fail "pkg-config --modversion $name"
+    done
+}
+
 test_minimal() {
-    [ "$(pkg-config --cflags --libs ppu | xargs)" = "-I$prefix/include -L$prefix/lib -lppu" ] || fail "pkg-config ppu: $(pkg-config --cflags --libs ppu)"
-    [ "$(pkg-config --modversion ppu)" = "$(sed -n 's/^#define PPU_VERSION "\(.*\)"$/\1/p' include/ppu.h)" ] || fail "pkg-config --modversion ppu"
     [ "$(wc -l <examples/minimal.c)" -lt 60 ] || fail "examples/minimal.c is no longer short"
-    local under=() compiler
-    if valgrind --quiet true 2>/dev/null; then under=(valgrind --quiet --error-exitcode=9); else skip "valgrind on minimal, which is not here"; fi
+    local compiler
     look minimal >"$out/wanted"
     for compiler in "${compilers[@]}"; do
         compile "$compiler" "$compiler" minimal ppu
@@ -86,6 +95,40 @@ test_minimal() {
         cmp "$out/printed" "$out/wanted" || fail "minimal by $compiler prints something else than the reckoning of tests/viewer/window.py"
     done
     say "examples/minimal.c by ${compilers[*]} prints the $(wc -l <"$out/wanted") rows that are reckoned${under[0]:+, under valgrind}"
+}
+
+# The text layer beside the library, in examples/text.c, and alone.
+test_text() {
+    local compiler words
+    words=$(sed -n 's/^TEXT = "\(.*\)"$/\1/p' examples/picture.py)
+    [ -n "$words" ] || fail "examples/picture.py has no TEXT"
+    cat >"$out/alone.c" <<'PROGRAM'
+#include <ppu.h>
+int main(void)
+{
+    static uint8_t page[PPU_NAMETABLE_PAGE_LENGTH], table[PPU_TABLE_LENGTH], rows[PPU_ROWS_LENGTH];
+    page[33] = 7;
+    table[7] = 'a';
+    uint64_t answer = ppu_text(page, sizeof page, table, sizeof table, rows, sizeof rows);
+    int there = ppu_number(answer) == PPU_DONE && ppu_count(answer) == PPU_ROWS_LENGTH - 1 && rows[32] == ' ' && rows[33] == 'a';
+    return there && ppu_number(ppu_page(rows, sizeof rows, table, sizeof table, page, sizeof page)) == PPU_BAD_CHARACTER ? 0 : 1;
+}
+PROGRAM
+    for compiler in "${compilers[@]}"; do
+        compile "$compiler" "$compiler" text "ppu ppu-text"
+        "${under[@]}" "$out/text-$compiler" <examples/picture.log >"$out/printed" || fail "text by $compiler"
+        [ "$(sed 's/^ *//; s/ *$//; /^$/d' "$out/printed")" = "$words"$'\n'"0 tiles without a character" ] || fail "text by $compiler prints $(cat "$out/printed")"
+        [ "$(grep -c '^.\{32\}$' "$out/printed")" -eq 30 ] || fail "text by $compiler prints no 30 rows of 32"
+        # shellcheck disable=SC2046 # the flags are words
+        "$compiler" -std=c99 -pedantic -Wall -Wextra -Werror "$out/alone.c" $(pkg-config --cflags --libs ppu-text) -o "$out/alone" ||
+            fail "$compiler: the text layer without the library"
+        "${under[@]}" "$out/alone" || fail "the text layer without the library, by $compiler"
+    done
+    make_as_user target/examples/text
+    target/examples/text <examples/picture.log | cmp - "$out/printed" || fail "text by make examples"
+    [ ! -e tools/build ] || "$prefix/bin/ppu-text" --table examples/picture.tbl --last examples/picture.log | diff - <(head -n 30 "$out/printed") ||
+        fail "the installed ppu-text and examples/text.c differ"
+    say "examples/text.c by ${compilers[*]} prints the words of examples/picture.py; ppu-text alone by pkg-config"
 }
 
 # refuses TEXT WORD..: the viewer with these words ends with status 2 and one line, which has the text in it
@@ -311,8 +354,10 @@ test_viewer() {
 }
 
 archive=$(realpath "${PPU_ARCHIVE:-target/staticlib/libppu.a}")
+text_archive=$(realpath "${PPU_TEXT_ARCHIVE:-target/staticlib/libtext.a}")
 player=$root/target/bin/player
 [ -f "$archive" ] || fail "no archive $archive: rt staticlib ppu makes it"
+[ -f "$text_archive" ] || fail "no archive $text_archive: rt staticlib text makes it"
 [ -x "$player" ] || fail "no player $player: ./play makes it"
 compilers=()
 for name in gcc clang; do
@@ -322,8 +367,12 @@ done
 tests/packages pkg-config libsdl2-dev xvfb xdotool || true
 test_install
 export PKG_CONFIG_PATH=$prefix/lib/pkgconfig ASAN_OPTIONS=detect_leaks=0 # SDL keeps some memory
+under=()
+if valgrind --quiet true 2>/dev/null; then under=(valgrind --quiet --error-exitcode=9); else skip "valgrind on minimal and text, which is not here"; fi
 if has pkg-config; then
+    test_packages
     test_minimal
+    test_text
 else
     skip "the examples, for want of pkg-config"
 fi

@@ -1,10 +1,11 @@
 #!/usr/bin/env bash
 # The commands of README.md and of examples/README.md, as written, each from the project's root, with a home folder of the test's own; README.md's
 # picture and its C sample. Those of tools/README.md are tested by tests/tools.sh, `.ci/run` by running it.
-# PPU_ARCHIVE names another archive than target/staticlib/libppu.a.
+# PPU_ARCHIVE and PPU_TEXT_ARCHIVE name other archives than target/staticlib/libppu.a and libtext.a.
 set -euo pipefail
 cd "$(dirname "$0")/.."
 archive=$(realpath "${PPU_ARCHIVE:-target/staticlib/libppu.a}")
+text_archive=$(realpath "${PPU_TEXT_ARCHIVE:-target/staticlib/libtext.a}")
 player=$(realpath target/bin/player)
 out=$(mktemp -d)
 trap 'rm -rf "$out"' EXIT
@@ -46,7 +47,7 @@ on_screen() {
 export -f on_screen
 export out
 
-# One command, in the shell that the commands before it have left. make takes this archive and this player as they are.
+# One command, in the shell that the commands before it have left. make takes these archives and this player as they are.
 run_page() {
     local page=$1 command
     export HOME=$out/home
@@ -59,7 +60,7 @@ run_page() {
             continue
         fi
         case $command in
-        make | make\ *) command="$command ARCHIVE=$archive PLAYER=$player" ;;
+        make | make\ *) command="$command ARCHIVE=$archive TEXT_ARCHIVE=$text_archive PLAYER=$player" ;;
         target/viewer*) command="on_screen $command" ;;
         esac
         printf '%s || { echo %q >&2; exit 1; }\n' "$command" "tests/readme.sh: $page: failed: $command" >>"$out/commands"

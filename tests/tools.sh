@@ -1,13 +1,15 @@
 #!/usr/bin/env bash
-# The commands of tools/ on the archive: pictures against the captures and against drawings of tests/pictures.py; ppu-log both ways; batches,
-# one that goes on after an interruption too; bad input to each: one line, a status, no file left behind.
-# PPU_ARCHIVE names another archive than target/staticlib/libppu.a. Without libpng only ppu-log is tested, and it says so.
+# The commands of tools/ on the archives: pictures against the captures and against drawings of tests/pictures.py; texts against those of
+# tests/texts.py; ppu-log both ways; batches, one that goes on after an interruption too; bad input to each: one line, a status, no file left behind.
+# PPU_ARCHIVE and PPU_TEXT_ARCHIVE name other archives than target/staticlib/libppu.a and libtext.a. Without libpng only ppu-log and ppu-text are
+# tested, and it says so.
 # shellcheck disable=SC2016 # a $ in quotes is the mark of a hexadecimal number here
 set -euo pipefail
 cd "$(dirname "$0")/.."
 root=$PWD
 ARCHIVE=$(realpath "${PPU_ARCHIVE:-target/staticlib/libppu.a}")
-export ARCHIVE
+TEXT_ARCHIVE=$(realpath "${PPU_TEXT_ARCHIVE:-target/staticlib/libtext.a}")
+export ARCHIVE TEXT_ARCHIVE
 player=$root/target/bin/player
 bin=$root/target/tests/tools/bin
 work=$root/target/tests/tools/work
@@ -23,6 +25,11 @@ passed() { checks=$((checks + ${1:-1})); }
 
 pictures() {
     python3 "$root/tests/pictures.py" "$@" || fail "pictures.py $*"
+    passed
+}
+
+texts() {
+    python3 "$root/tests/texts.py" "$@" || fail "texts.py $*"
     passed
 }
 
@@ -152,24 +159,301 @@ LINES
     rm wrong.txt
 }
 
-# A command that a signal ends takes away what it had begun to write.
-log_interrupted() {
-    local shower status=0 wait
+# A command that a signal ends while it plays slow.log takes away what it had begun to write, shown.
+interrupted() { # LOG COMMAND..
+    local shower status=0 wait log=$1
+    shift
     mkfifo slow.log
     exec 4<>slow.log
-    ppu-log show slow.log -o shown 4>&- &
+    "$@" 4>&- &
     shower=$!
+    cat "$log" >&4
     for wait in $(seq 200); do
         [ ! -e "shown.$shower.part" ] || break
         sleep 0.02
     done
-    [ "$wait" -lt 200 ] || fail "no shown.$shower.part"
+    [ "$wait" -lt 200 ] || fail "$*: no shown.$shower.part"
     kill -s TERM "$shower"
     wait "$shower" 2>/dev/null || status=$?
     exec 4>&-
     rm slow.log
-    { [ "$status" -eq 143 ] && [ "$(ls)" = "$(text captured raw)" ]; } || fail "ended by a signal: status $status, $(ls)"
+    { [ "$status" -eq 143 ] && [ "$(ls)" = "$(text captured raw)" ]; } || fail "$*: ended by a signal: status $status, $(ls)"
     passed
+}
+
+# TEXTS
+
+# What ppu-text says on standard error, besides its status, which must be this one.
+says() { # STATUS FILE WORD..
+    local status=0
+    ppu-text "${@:3}" >said 2>errors || status=$?
+    [ "$status" -eq "$1" ] || fail "ppu-text ${*:3}: status $status, not $1; it said: $(cat errors)"
+    same "what ppu-text ${*:3} says" errors "$2"
+}
+
+text_screens() {
+    local count
+    texts example
+    texts quarters
+    texts forms
+    texts back
+    count=$(texts captures captured)
+    passed "$count"
+    echo "  ppu-text: $count screens of the captures; all quarters under all boards; both forms of a table, lines and JSON; texts to pages and back"
+}
+
+text_options() {
+    local log=$root/examples/picture.log table=$root/examples/picture.tbl
+    ppu-text --table "$table" "$log" >all
+    [ "$(grep -n picture all | tr '\n' ' ')" = "1:picture 1, quarter 0 32:picture 2, quarter 0 63:picture 3, quarter 0 94:picture 4, quarter 0 " ] ||
+        fail "not four screens: $(grep -n picture all)"
+    [ "$(wc -l <all)" -eq 124 ] || fail "$(wc -l <all) lines of four screens"
+    sed -n '32,62p;94,124p' all >expected
+    ppu-text --table "$table" --every 2 -o shown "$log"
+    same "--every 2 -o FILE" shown expected
+    sed -n '95,124p' all >expected
+    ppu-text --table "$table" --last - <"$log" >shown
+    same "--last of standard input" shown expected
+    ppu-text --table - --last "$log" < <(printf '  02BCEHILMOS' && head -c 243 /dev/zero) >shown
+    same "a table on standard input" shown expected
+    sed 's/ *$//' expected >trimmed
+    ppu-text --table "$table" --last --trim --quarter 0 "$log" >shown
+    same "--trim" shown trimmed
+    ppu-text --table "$table" --page shown -o page
+    ppu-text --table "$table" --page expected >page2
+    same "the page of trimmed lines" page page2
+    { printf '\xEF\xBB\xBF; a comment\n\n// another\n\t# and another\n' && sed 's/^/ /' "$table"; } | sed 's/$/\r/' >MARKED.TBL
+    ppu-text --table MARKED.TBL --last "$log" >shown
+    same "a table with a byte order mark, comments, blanks and CR LF" shown expected
+    passed 2
+    rm all expected shown trimmed page page2 MARKED.TBL
+}
+
+# Tile $41 in the second picture and the third has no character, or one that cannot be shown. A refused record comes before it, and a 5 before both.
+text_strict() {
+    local before=('RUN 262' 'W 2006 20' 'W 2006 00' 'W 2007 41' 'RUN 262') log=tiles.log
+    text '00= ' >some.tbl
+    { printf ' ' && head -c 64 /dev/zero && printf '\a' && head -c 190 /dev/zero; } >bell
+    log_of "$log" "${before[@]}" 'W 2007 41' 'RUN 262'
+    text "ppu-text: $log: picture 2: 1 tile without a character" "ppu-text: $log: picture 3: 2 tiles without a character" >expected
+    says 0 expected --table some.tbl "$log"
+    says 6 expected --table some.tbl --strict "$log"
+    says 6 expected --table some.tbl --strict --json "$log"
+    [ "$(grep -c '"tiles_without_character": [012]}$' said)" -eq 3 ] || fail "--json: $(cat said)"
+    text "ppu-text: $log: picture 3: 2 tiles without a character" >expected
+    says 6 expected --table some.tbl --strict --last "$log"
+    says 0 /dev/null --table some.tbl --strict --quarter 1 "$log"
+    text "ppu-text: $log: picture 2: 1 control character, written as ?" "ppu-text: $log: picture 3: 2 control characters, written as ?" >expected
+    says 0 expected --table bell --strict "$log"
+    [ "$(grep -c '^??* *$' said)" -eq 2 ] || fail "control characters: $(cat said)"
+    says 0 /dev/null --table bell --strict --json "$log"
+    [ "$(grep -o '\\u0007' said | wc -l)" -eq 3 ] || fail "control characters in JSON: $(cat said)"
+    log_of "$log" 'R 1FFF' "${before[@]}" 'RAW 03 20 00 00' 'RUN 262'
+    text "ppu-text: $log: record 1: refused 1: address \$1FFF is outside \$2000-\$3FFF" "ppu-text: $log: picture 2: 1 tile without a character" \
+        "ppu-text: $log: record 7: refused 5: unknown kind \$03, not 0 read, 1 write or 2 run" >expected
+    says 4 expected --table some.tbl --strict "$log"
+    [ "$(wc -l <said)" -eq 62 ] || fail "not the two screens before the 5"
+    says 4 expected --table some.tbl -o said.txt "$log"
+    [ "$(wc -l <said.txt)" -eq 62 ] || fail "not the two screens before the 5 in a file"
+    log_of "$log" 'R 1FFF' "${before[@]}"
+    sed -i 3d expected
+    says 0 expected --table some.tbl "$log"
+    says 1 expected --table some.tbl --strict "$log"
+    passed 5
+    rm some.tbl bell "$log" said said.txt errors expected
+}
+
+# Of each kind of report the first ten are shown, and a sum.
+text_many() {
+    local k
+    text '01=x' >some.tbl
+    log_of many.log 'RUN 6026'
+    for k in $(seq 10); do
+        text "ppu-text: many.log: picture $k: 960 tiles without a character"
+    done >expected
+    text "ppu-text: many.log: $((23 * 960)) tiles without a character in all, in 23 screens" >>expected
+    says 6 expected --table some.tbl --strict many.log
+    [ "$(wc -l <said)" -eq $((23 * 31)) ] || fail "not 23 screens"
+    { text 'RUN 262' && printf 'R 4000\n%.0s' {1..5000}; } | ppu-log make -o many.log
+    says 1 <(for k in $(seq 2 11); do
+        text "ppu-text: many.log: record $k: refused 1: address \$4000 is outside \$2000-\$3FFF"
+    done && text 'ppu-text: many.log: picture 1: 960 tiles without a character' \
+        'ppu-text: many.log: 5000 records refused in all: 5000 with 1, 0 with 2, 0 with 3, 0 with 4, 0 with 5') --table some.tbl --strict --last many.log
+    passed
+    rm some.tbl many.log said errors expected
+}
+
+text_table_errors() {
+    local log=$root/examples/picture.log
+    printf '%255s' '' >short
+    printf '%257s' '' >long
+    : >empty
+    : >empty.tbl
+    text '# a comment' '' '// another' >comments.tbl
+    printf '# a comment\r41=A\r42=B\r' >cr.tbl
+    refuses 3 'ppu-text: short: not a table: it has fewer than 256 bytes.* \.tbl.*41=A' ppu-text --table short "$log"
+    refuses 3 'ppu-text: empty: not a table: it has fewer than 256 bytes' ppu-text --table empty "$log"
+    refuses 3 'ppu-text: long: not a table: it has more than 256 bytes.* \.tbl.*41=A' ppu-text --table long "$log"
+    refuses 3 'ppu-text: standard input: not a table: it has fewer' ppu-text --table - "$log"
+    refuses 3 'ppu-text: nowhere.tbl: No such file' ppu-text --table nowhere.tbl "$log"
+    refuses 3 '^ppu-text: empty.tbl: not a table: it has no entry like 41=A$' ppu-text --table empty.tbl "$log"
+    refuses 3 '^ppu-text: comments.tbl: not a table: it has no entry like 41=A$' ppu-text --table comments.tbl -o shown "$log"
+    refuses 3 '^ppu-text: comments.tbl: not a table: it has no entry like 41=A$' ppu-text --table comments.tbl --page -o shown /dev/null
+    refuses 3 '^cr.tbl:1: a CR within the line: line ends are LF or CR LF$' ppu-text --table cr.tbl "$log"
+    refuses 3 'ppu-text: captured: a folder' ppu-text --table captured "$log"
+    rm short long empty empty.tbl comments.tbl cr.tbl
+}
+
+# Lines of a table that are no entries, from standard input: each with what is said of it.
+wrong_entries() {
+    local log=$root/examples/picture.log line said
+    while IFS='|' read -r line said; do
+        printf '%b\n' '00= ' '# a comment' "$line" '01=x' >wrong.tbl
+        refuses 3 "^wrong.tbl:3: $said" ppu-text --table wrong.tbl -o shown "$log"
+        refuses 3 "^wrong.tbl:3: $said" ppu-text --table wrong.tbl --page -o shown /dev/null
+    done
+    rm wrong.tbl
+}
+
+text_tile_errors() {
+    wrong_entries <<'LINES'
+@game|@game: no entry; an entry is one tile and one character, as in 41=A
+*FE|\*FE: no entry
+/FF=end|/FF=end: no entry
+$FE=name,1|\$FE=name,1: no entry
+!FE=name,1|!FE=name,1: no entry
+41|41: no entry
+41 =A|41 =A: no entry
+=A|=A: no entry
+4G=A|4G=A: no entry
+0x41=A|0x41=A: no entry
+4142=A|4142=A: a tile has two hexadecimal digits; an entry is one tile
+1=A|1=A: a tile has two hexadecimal digits
+00=x|tile \$00 has its character from line 1 already
+LINES
+}
+
+text_value_errors() {
+    wrong_entries <<'LINES'
+41=|nothing behind =, not even a space; a tile without a character has no line$
+41=\r|nothing behind =, not even a space
+41=AB|'AB': more than one character behind =; an entry is one tile and one character, as in 41=A$
+41=A |'A ': more than one character behind =
+41=  |'  ': more than one character behind =
+41=B ;note|'B ;note': more than one character behind =
+41=A\t|'A\?': more than one character behind =
+41=\xC3\xA9A|'éA': more than one character behind =
+41=A\xE3\x81\x82\xE9\xC2\x85|'Aあ\?\?': more than one character behind =
+41=123456789012345678901234567890123456789|'123456789012345678901234567890123456789': more than one
+41=1234567890123456789012345678901234567890|'123456789012345678901234567890123456789'\.\.\.: more than one
+41=\xE3\x81\x82|'あ': a character that is neither ASCII nor Latin-1, which a table of bytes cannot hold$
+41=\xC4\x80|'Ā': a character that is neither ASCII nor Latin-1
+41=\xF0\x9F\x98\x80|'😀': a character that is neither ASCII nor Latin-1
+41=\x82\xA0|'\?\?': bytes that are not UTF-8: .* a character that is neither ASCII nor Latin-1, which a table of bytes cannot hold$
+41=\xE9\xE8|'\?\?': bytes that are not UTF-8: more than one Latin-1 character, or
+41=\xE9A|'\?A': bytes that are not UTF-8
+41=\xC1\x81|'\?\?': bytes that are not UTF-8
+41=\xE0\x81\x81|'\?\?\?': bytes that are not UTF-8
+41=\xED\xA0\x80|'\?\?\?': bytes that are not UTF-8
+41=\xF4\x90\x80\x80|'\?\?\?\?': bytes that are not UTF-8
+41=A\r42=B|a CR within the line: line ends are LF or CR LF$
+41=\t|a control character, \$09, behind =
+41=\xC2\x85|a control character, \$85, behind =
+41=\x93|a control character, \$93, behind =
+41=A\x00|a zero byte: this is no text
+LINES
+}
+
+# What is one character of a table: itself a mark of the format, a space, Latin-1 as a byte and in UTF-8.
+text_table_characters() {
+    printf '%b' '00==\n01= \n02=#\n03=;\n04=/\n05=\xE9\n06=\xC3\xA9\n07=\xC2\xA1\n08=\xFF\nfF="' >some.tbl
+    log_of some.log 'RUN 262' 'W 2006 20' 'W 2006 00' 'W 2007 '{00,01,02,03,04,05,06,07,08,FF} 'RUN 240'
+    ppu-text --table some.tbl --last some.log | head -n 1 >shown
+    printf '%b' '= #;/éé¡ÿ"======================\n' >expected
+    same "the characters of a table" shown expected
+    rm some.tbl some.log shown expected
+}
+
+text_line_errors() {
+    local table=$root/examples/picture.tbl
+    text 'BLOOM' '' 'CHISEL 2C02?' >wrong.txt
+    refuses 4 "^wrong.txt:3: column 12: '\?' is not in the table" ppu-text --page --table "$table" wrong.txt -o page
+    refuses 4 "^standard input:1: column 1: 'x' is not in the table" bash -c 'echo x | ppu-text --page --table "$1"' bash "$table"
+    printf 'BLOOM\nB\tC\n' >wrong.txt
+    refuses 4 '^wrong.txt:2: column 2: \$09 is not in the table' ppu-text --page --table "$table" wrong.txt
+    printf 'BLOOM\nO\xC3\xA9\n' >wrong.txt
+    refuses 4 "^wrong.txt:2: column 2: 'é' is not in the table" ppu-text --page --table "$table" wrong.txt
+    printf 'BLOOM\nO\xE9\n' >wrong.txt
+    refuses 4 '^wrong.txt:2: column 2: bytes that are not UTF-8$' ppu-text --page --table "$table" wrong.txt
+    printf 'BLOOM\nO\xE3\x81\x82\n' >wrong.txt
+    refuses 4 '^wrong.txt:2: column 2: a character that is neither ASCII nor Latin-1$' ppu-text --page --table "$table" wrong.txt
+    printf 'BLOOM\rCHISEL\r' >wrong.txt
+    refuses 4 '^wrong.txt:1: a CR within the line: line ends are LF or CR LF$' ppu-text --page --table "$table" wrong.txt -o page
+    printf 'BLOOM\nO\0\n' >wrong.txt
+    refuses 4 '^wrong.txt:2: a zero byte: this is no text' ppu-text --page --table "$table" wrong.txt
+    printf '%32s\n%33s\n' '' '' >wrong.txt
+    refuses 4 '^wrong.txt:2: more than 32 characters' ppu-text --page --table "$table" wrong.txt -o page
+    printf '\n%.0s' {1..31} >wrong.txt
+    refuses 4 '^wrong.txt:31: a line too many: a page has 30 rows' ppu-text --page --table "$table" wrong.txt -o page
+    text '01=B' '02=L' >some.tbl
+    printf '%s\n' BLBLBLBLBLBLBLBLBLBLBLBLBLBLBLBL BLB >wrong.txt
+    refuses 4 "^wrong.txt:2: column 4: ' ', for the rest of the row, is not in the table" ppu-text --page --table some.tbl wrong.txt -o page
+    sed -i 2d wrong.txt
+    refuses 4 "^wrong.txt:2: column 1: ' ', for the rest of the row, is not in the table" ppu-text --page --table some.tbl wrong.txt -o page
+    rm wrong.txt some.tbl
+}
+
+text_page_errors() {
+    local table=$root/examples/picture.tbl option
+    printf '%1023s' '' >short
+    printf '%1025s' '' >long
+    refuses 3 'ppu-text: short: not a page: it has fewer than 1024 bytes' ppu-text --page --table "$table" --onto short /dev/null -o page
+    refuses 3 'ppu-text: long: not a page: it has more than 1024 bytes' ppu-text --page --table "$table" --onto long /dev/null -o page
+    refuses 3 'ppu-text: nowhere: No such file' ppu-text --page --table "$table" --onto nowhere /dev/null -o page
+    refuses 3 'ppu-text: nowhere.txt: No such file' ppu-text --page --table "$table" nowhere.txt -o page
+    refuses 3 'ppu-text: /dev/full: cannot be written: No space' ppu-text --page --table "$table" /dev/null -o /dev/full
+    refuses 2 'ppu-text: --onto: only with --page' ppu-text --table "$table" --onto short a
+    refuses 2 'ppu-text: b: one text at a time' ppu-text --page --table "$table" a b
+    refuses 2 'ppu-text: standard input can be only one of the files' ppu-text --page --table -
+    refuses 2 'ppu-text: standard input can be only one of the files' ppu-text --page --table "$table" --onto - -
+    for option in last json trim strict every=2 quarter=1 board=1; do
+        refuses 2 "ppu-text: --${option%=*}: not with --page" ppu-text --page "--$option" --table "$table" a
+    done
+    rm short long
+}
+
+text_errors() {
+    local log=$root/examples/picture.log table=$root/examples/picture.tbl
+    : >empty.log
+    log_of short.log 'RUN 239' 'R 2002'
+    log_of cut.log 'RUN 100' 'RAW 02 01 06'
+    log_of long.log 'RUN 65535'
+    refuses 2 'ppu-text: no table given: --table' ppu-text "$log"
+    refuses 2 'ppu-text: no table given: --table' ppu-text --page
+    refuses 2 'ppu-text: no log given' ppu-text --table "$table"
+    refuses 2 'ppu-text: b: one log at a time' ppu-text --table "$table" a b
+    refuses 2 'ppu-text: --colour: no such option' ppu-text --colour "$log"
+    refuses 2 'ppu-text: --json=1: takes no argument' ppu-text --json=1 "$log"
+    refuses 2 'ppu-text: --table: an argument is missing' ppu-text "$log" --table
+    refuses 2 'ppu-text: --quarter 4: not a number from 0 to 3' ppu-text --table "$table" --quarter 4 "$log"
+    refuses 2 'ppu-text: --quarter -1: not a number from 0 to 3' ppu-text --table "$table" --quarter -1 "$log"
+    refuses 2 'ppu-text: --every 0: not a number' ppu-text --table "$table" --every 0 "$log"
+    refuses 2 'ppu-text: --every and --last' ppu-text --table "$table" --every 2 --last "$log"
+    refuses 2 'ppu-text: --board 12: refused 3: ' ppu-text --table "$table" --board 12 "$log"
+    refuses 2 'ppu-text: --output: the name is empty' ppu-text --table "$table" -o '' "$log"
+    refuses 2 'ppu-text: standard input can be only one of the files' ppu-text --table - -
+    refuses 3 'ppu-text: nowhere.log: No such file' ppu-text --table "$table" nowhere.log -o shown
+    refuses 3 'ppu-text: captured: a folder' ppu-text --table "$table" captured
+    refuses 3 'ppu-text: /proc/nowhere/text: No such file' ppu-text --table "$table" -o /proc/nowhere/text "$log"
+    refuses 3 'ppu-text: empty.log/text: Not a directory' ppu-text --table "$table" -o empty.log/text "$log"
+    refuses 3 'ppu-text: /dev/full: cannot be written: No space' ppu-text --table "$table" -o /dev/full "$log"
+    refuses 3 'ppu-text: standard output: cannot be written: No space' bash -c 'ppu-text --table "$1" --last "$2" >/dev/full' bash "$table" "$log"
+    refuses 3 'ppu-text: shown: cannot be written: File too large' bash -c 'ulimit -f 8 && exec ppu-text --table "$1" -o shown "$2"' bash "$table" long.log
+    refuses 4 'ppu-text: cut.log: record 2: refused 5: record cut short, 3 of 4 bytes' ppu-text --table "$table" -o shown cut.log
+    refuses 5 'ppu-text: empty.log: the log is empty' ppu-text --table "$table" -o shown empty.log
+    refuses 5 'ppu-text: short.log: no whole picture: the log ends before line 239' ppu-text --table "$table" -o shown short.log
+    refuses 5 'ppu-text: .*: no picture: it has 4 whole pictures, --every 5' ppu-text --table "$table" --every 5 -o shown "$log"
+    rm empty.log short.log cut.log long.log
 }
 
 # PICTURES
@@ -462,6 +746,42 @@ batch_errors() {
     refuses 3 'ppu-batch: captured/hit8.log: the folder cannot be made' ppu-batch captured/hit8.log "$log"
 }
 
+# Only ppu-text takes the text archive. It is built again where either archive has changed, and only there.
+builds() {
+    local archive built
+    refuses 1 'tools/build: ppu-none: no such command' "$root/tools/build" ppu-none
+    mkdir built
+    export OUT=$PWD/built
+    TEXT_ARCHIVE=nowhere "$root/tools/build" ppu-log || fail "ppu-log without the text archive"
+    refuses 1 'tools/build: no archive nowhere' env TEXT_ARCHIVE=nowhere "$root/tools/build" ppu-text
+    refuses 1 'tools/build: no archive nowhere' env ARCHIVE=nowhere "$root/tools/build" ppu-text
+    cp "$ARCHIVE" ppu.a
+    cp "$TEXT_ARCHIVE" text.a
+    for archive in none ppu.a text.a; do
+        built=$(stat -c %y built/ppu-text 2>/dev/null || true)
+        [ "$archive" = none ] || ar rc "$archive" "$root/tests/tools.sh"
+        ARCHIVE=ppu.a TEXT_ARCHIVE=text.a "$root/tools/build" ppu-text
+        [ "$(stat -c %y built/ppu-text)" != "$built" ] || fail "ppu-text is not built again: $archive"
+        built=$(stat -c %y built/ppu-text)
+        ARCHIVE=ppu.a TEXT_ARCHIVE=text.a "$root/tools/build" ppu-text
+        [ "$(stat -c %y built/ppu-text)" = "$built" ] || fail "ppu-text is built again: $archive"
+    done
+    passed 7
+    unset OUT
+    rm -r built ppu.a text.a
+}
+
+# What --help says of each number of a refusal: five lines, the same in the commands that play a log for its screens.
+numbers() { # COMMAND..
+    local name
+    for name in "$@"; do
+        "$name" --help | sed -n '/, and its number:$/,/^The play goes on/{/^  [0-9]/p}' >"numbers.$name"
+        [ "$(cut -c 1-5 "numbers.$name" | tr -d ' \n')" = 12345 ] || fail "$name --help: other numbers: $(cat "numbers.$name")"
+        same "the numbers of $name --help" "numbers.$name" "numbers.$1"
+    done
+    rm numbers.*
+}
+
 # In the source tree the commands build themselves; --help and --version of each.
 from_the_tree() {
     local name
@@ -485,8 +805,8 @@ readme() {
     while IFS= read -r line; do
         grep -Fxq -- "${line#    }" printed || fail "tools/README.md: nothing printed $line"
         printed=$((printed + 1))
-    done < <(grep -E '^    (R|W|RUN|logs|pictures|refused) ' "$root/tools/README.md")
-    { [ "$commands" -eq 8 ] && [ "$printed" -eq 13 ]; } || fail "tools/README.md: $commands commands and $printed lines they print"
+    done < <(grep -E '^    (R|W|RUN|logs|pictures|refused|  ) ' "$root/tools/README.md")
+    { [ "$commands" -eq 12 ] && [ "$printed" -eq 14 ]; } || fail "tools/README.md: $commands commands and $printed lines they print"
     passed 2
     rm -r readme commands printed
 }
@@ -495,7 +815,7 @@ readme() {
 
 # The installed commands beside each other.
 mkdir -p "$bin" "$work"
-OUT=$bin tools/build ppu-log
+OUT=$bin tools/build ppu-log ppu-text
 no_libpng=0
 OUT=$bin tools/build ppu-picture || no_libpng=$?
 [ "$no_libpng" -eq 0 ] || [ "$no_libpng" -eq 77 ] || fail "ppu-picture is not built"
@@ -506,8 +826,16 @@ make_logs
 log_text
 log_round_trips
 log_errors
-log_interrupted
-from_the_tree ppu-log
+interrupted /dev/null ppu-log show slow.log -o shown
+for part in text_screens text_options text_strict text_many text_table_errors text_tile_errors text_value_errors text_table_characters \
+    text_line_errors text_page_errors text_errors; do
+    $part
+done
+interrupted "$root/examples/picture.log" ppu-text --table "$root/examples/picture.tbl" slow.log -o shown
+echo "  ppu-text: options, reports and statuses; tables, texts, logs and files that cannot be taken, by line and column"
+builds
+from_the_tree ppu-log ppu-text
+numbers ppu-text
 if [ "$no_libpng" -eq 0 ]; then
     for part in picture_captures picture_options picture_lines picture_runs picture_refusals picture_bad_record picture_errors picture_full_disk \
         batch_runs batch_shares batch_failures batch_errors; do
@@ -516,6 +844,7 @@ if [ "$no_libpng" -eq 0 ]; then
     batch_interrupted TERM
     batch_interrupted KILL
     from_the_tree ppu-picture ppu-batch
+    numbers ppu-text ppu-picture
     readme
     echo "  ppu-batch: passing over, other options, shares, failures, interruptions; the commands of tools/README.md"
 else

@@ -6,9 +6,9 @@
 
    A call with a wrong length must answer 2 and change nothing; one with the right lengths must not answer 2; what is
    lent to be looked at is never changed. A log without a whole and good record at its front must answer 5; with one, the
-   lengths that count are those of the call that the record stands for. LINES says that the archive has ppu_line, ppu_run
-   and ppu_play. With REACH_READ or REACH_WRITE the test itself goes one byte beyond a slice, as a faulty library would, to
-   show that this is noticed. */
+   lengths that count are those of the call that the record stands for. Rows of the right length with a character that is
+   0 or has no tile must answer 8. LINES says that the archive has ppu_line, ppu_run and ppu_play. With REACH_READ or
+   REACH_WRITE the test itself goes one byte beyond a slice, as a faulty library would, to show that this is noticed. */
 #define _DEFAULT_SOURCE
 #include <stdio.h>
 #include <stdlib.h>
@@ -16,16 +16,17 @@
 #include <sys/mman.h>
 #include "ppu.h"
 
-enum { UNIT, LEFT, RIGHT, NAMETABLES, OAM, PALETTE, LINE, PAGE, LOG, MEMORIES };
-enum { FRESH, READ, WRITE, DMA, RUN_LINE, RUN_MANY, PLAY, KINDS };
-enum { LONGEST = 5000, ROOM = 8192, BARRIER = 4096 };
+/* PAGE is sprite DMA's, SHEET a page of nametable RAM. */
+enum { UNIT, LEFT, RIGHT, NAMETABLES, OAM, PALETTE, LINE, PAGE, LOG, SHEET, TABLE, ROWS, MEMORIES };
+enum { FRESH, READ, WRITE, DMA, TEXT, TEXT_PAGE, RUN_LINE, RUN_MANY, PLAY, KINDS };
+enum { LONGEST = 5000, ROOM = 8192, BARRIER = 4096, NUMBERS = 9 };
 
-static const size_t right_length[MEMORIES] = {16, 4096, 4096, 2048, 256, 32, 256, 256, 4};
-static const char *const kind_name[KINDS] = {"fresh", "read", "write", "dma", "line", "run", "play"};
+static const size_t right_length[MEMORIES] = {16, 4096, 4096, 2048, 256, 32, 256, 256, 4, 1024, 256, 960};
+static const char *const kind_name[KINDS] = {"fresh", "read", "write", "dma", "text", "page", "line", "run", "play"};
 
 /* The memories that a kind of call is lent, and those of them that it may change, as sets of bits; for play see `played`. */
-static const unsigned lent[KINDS] = {0x01, 0x3F, 0x3F, 0x91, 0x5F, 0x5F, 0x17F};
-static const unsigned mutable_ones[KINDS] = {0x01, 0x01, 0x3F, 0x11, 0x41, 0x41, 0};
+static const unsigned lent[KINDS] = {0x01, 0x3F, 0x3F, 0x91, 0xE00, 0xE00, 0x5F, 0x5F, 0x17F};
+static const unsigned mutable_ones[KINDS] = {0x01, 0x01, 0x3F, 0x11, 0x800, 0x200, 0x41, 0x41, 0};
 
 static struct memory {
     uint8_t *room;    /* ROOM bytes between two barriers, or the block itself */
@@ -126,6 +127,32 @@ static void make_record(uint8_t *log, size_t length)
     memcpy(log, record, length < 4 ? length : 4);
 }
 
+/* Mostly makes rows of the table's characters; now and then one is at fault, or a tile loses its character. */
+static void make_rows(struct memory *rows, struct memory *table)
+{
+    if (table->length == 0 || below(4) == 0)
+        return;
+    for (size_t i = 0; i < table->length; i++)
+        table->at[i] |= 1;
+    for (size_t i = 0; i < rows->length; i++)
+        rows->at[i] = table->at[rows->at[i] % table->length];
+    if (rows->length > 0 && below(3) == 0)
+        rows->at[below(rows->length)] = below(2) ? 0 : 2; /* the table's are odd */
+    if (below(3) == 0)
+        table->at[below(table->length)] = 0;
+}
+
+/* Whether some character of the rows is 0 or has no tile, so that 8 is due; both have their right lengths. */
+static int has_bad_character(const struct memory *rows, const struct memory *table)
+{
+    int has_tile[256] = {0}, bad = 0;
+    for (size_t i = 0; i < right_length[TABLE]; i++)
+        has_tile[table->at[i]] = table->at[i] != 0;
+    for (size_t i = 0; i < right_length[ROWS]; i++)
+        bad |= !has_tile[rows->at[i]];
+    return bad;
+}
+
 /* The call that the record at the log's front stands for; PLAY where there is none, so that 5 is due. */
 static int played(const struct memory *log)
 {
@@ -167,6 +194,10 @@ static uint64_t call(int kind)
         return ppu_write(SLICE(UNIT), address, byte, SLICE(LEFT), SLICE(RIGHT), SLICE(NAMETABLES), SLICE(OAM), SLICE(PALETTE));
     case DMA:
         return ppu_dma(SLICE(UNIT), SLICE(OAM), SLICE(PAGE));
+    case TEXT:
+        return ppu_text(SLICE(SHEET), SLICE(TABLE), SLICE(ROWS));
+    case TEXT_PAGE:
+        return ppu_page(SLICE(ROWS), SLICE(TABLE), SLICE(SHEET));
 #ifdef LINES
     case RUN_LINE:
         return ppu_line(SLICE(UNIT), SLICE(LEFT), SLICE(RIGHT), SLICE(NAMETABLES), SLICE(OAM), SLICE(LINE));
@@ -212,23 +243,31 @@ static int is_kept(const struct memory *m, int may_change)
     return memcmp(m->room, m->before, front) == 0 && memcmp(m->room + end, m->before + end, room_size(m) - end) == 0;
 }
 
-static int round_of(long round, int kind)
+/* Every memory at the length of a call of the kind, with bytes that are mostly fit for one. */
+static void prepare(int kind)
 {
     size_t length[MEMORIES];
-    int wrong = 0;
     choose_lengths(kind, length);
     for (int m = 0; m < MEMORIES; m++) {
         place(&memory[m], length[m]);
         fill(&memory[m]);
-        if (m == UNIT && length[m] >= 16 && below(4))
-            make_well_formed(memory[m].at);
-        if (m == LOG)
-            make_record(memory[m].at, length[m]);
-        keep(&memory[m]);
     }
+    if (length[UNIT] >= 16 && below(4))
+        make_well_formed(memory[UNIT].at);
+    make_record(memory[LOG].at, length[LOG]);
+    make_rows(&memory[ROWS], &memory[TABLE]);
+    for (int m = 0; m < MEMORIES; m++)
+        keep(&memory[m]);
+}
+
+static int round_of(long round, int kind)
+{
+    int wrong = 0;
+    prepare(kind);
     int as = kind == PLAY ? played(&memory[LOG]) : kind;
     for (int m = 0; m < MEMORIES; m++)
-        wrong |= as != PLAY && (lent[as] >> m & 1) && length[m] != right_length[m];
+        wrong |= as != PLAY && (lent[as] >> m & 1) && memory[m].length != right_length[m];
+    int bad = as == TEXT_PAGE && !wrong && has_bad_character(&memory[ROWS], &memory[TABLE]);
     uint64_t answer = call(kind);
     reach();
     int number = (int)ppu_number(answer);
@@ -236,6 +275,8 @@ static int round_of(long round, int kind)
         complain(round, kind, as == PLAY ? "no record, and not refused with 5" : "a record is refused with 5");
     if ((number == 2) != wrong)
         complain(round, kind, wrong ? "a wrong length is not refused with 2" : "the right lengths are refused with 2");
+    if ((number == 8) != bad)
+        complain(round, kind, bad ? "a bad character is not refused with 8" : "good characters are refused with 8");
     if (number != 0 && answer != (uint64_t)number)
         complain(round, kind, "a refusal says more than its number");
     for (int m = 0; m < MEMORIES; m++) {
@@ -253,7 +294,7 @@ int main(int argc, char **argv)
         fprintf(stderr, "usage: lengths ROUNDS SEED pages|heap\n");
         return 2;
     }
-    long rounds = atol(argv[1]), count[KINDS][6] = {{0}};
+    long rounds = atol(argv[1]), count[KINDS][NUMBERS] = {{0}};
     state = strtoull(argv[2], NULL, 10);
     in_pages = strcmp(argv[3], "pages") == 0;
     if (in_pages)
@@ -266,12 +307,12 @@ int main(int argc, char **argv)
 #endif
     for (long round = 0; round < rounds && !failed; round++) {
         int kind = (int)below((size_t)kinds);
-        count[kind][round_of(round, kind) % 6]++;
+        count[kind][round_of(round, kind) % NUMBERS]++;
     }
     for (int k = 0; k < kinds; k++) {
-        printf("  %-5s %ld done, refused %ld with 1, %ld with 2, %ld with 3, %ld with 4, %ld with 5\n", kind_name[k],
-               count[k][0], count[k][1], count[k][2], count[k][3], count[k][4], count[k][5]);
-        failed |= count[k][0] == 0 || count[k][2] == 0 || (k == PLAY && count[k][5] == 0);
+        printf("  %-5s %ld done, refused %ld with 1, %ld with 2, %ld with 3, %ld with 4, %ld with 5, %ld with 8\n",
+               kind_name[k], count[k][0], count[k][1], count[k][2], count[k][3], count[k][4], count[k][5], count[k][8]);
+        failed |= count[k][0] == 0 || count[k][2] == 0 || (k == PLAY && count[k][5] == 0) || (k == TEXT_PAGE && count[k][8] == 0);
     }
     printf("tests/callers: %ld calls, seed %s, %s: %s\n", rounds, argv[2], argv[3], failed ? "FAILED" : "ok");
     return failed;

@@ -7,6 +7,8 @@ enum { SIZE = 256 * 1024, PAINT = 0xA5, MOST = 4096 };
 
 static Machine m;
 static uint8_t *stack;
+static uint8_t table[PPU_TABLE_LENGTH], rows[PPU_ROWS_LENGTH];
+static unsigned right_answers;
 
 /* memory for a stack */
 static uint8_t *aligned(void)
@@ -38,6 +40,16 @@ static void *all_calls(void *unused)
     return unused;
 }
 
+/* the text of a page, the page of that text, and one that is refused for its last character */
+static void *text_calls(void *unused)
+{
+    right_answers = ppu_text(m.nametables, 1024, table, 256, rows, 960) == PPU_DONE;
+    right_answers += ppu_page(rows, 960, table, 256, m.nametables + 1024, 1024) == PPU_DONE;
+    rows[959] = 0;
+    right_answers += ppu_page(rows, 960, table, 256, m.nametables + 1024, 1024) == PPU_BAD_CHARACTER;
+    return unused;
+}
+
 /* the bytes of the painted stack that a thread has written over */
 static size_t used_by(void *(*work)(void *))
 {
@@ -62,12 +74,19 @@ int main(void)
     scatter(&m, 7);
     for (int i = 0; i < 256; i += 4)
         m.page[i] = (uint8_t)(i / 2);
+    for (int i = 0; i < 256; i++)
+        table[i] = (uint8_t)(i ? i : 32);
+    text_calls(NULL);
     all_calls(NULL); /* the dynamic linker resolves what the calls use now, and not on the painted stack */
-    size_t alone = used_by(nothing), with_calls = used_by(all_calls);
+    size_t alone = used_by(nothing), with_calls = used_by(all_calls), with_text = used_by(text_calls);
     EXPECT(m.unit[PPU_AT_MASK], 0x1E);
     EXPECT(with_calls > alone, 1);
     EXPECT(with_calls - alone < MOST, 1);
-    printf("  every call, lines with eight sprites too: %zu bytes of stack, %d allowed\n", with_calls - alone, MOST);
+    printf("  every call of the unit, lines with eight sprites too: %zu bytes of stack, %d allowed\n", with_calls - alone, MOST);
+    EXPECT(right_answers, 3);
+    EXPECT(with_text > alone, 1);
+    EXPECT(with_text - alone < MOST, 1);
+    printf("  ppu_text and ppu_page: %zu bytes of stack, %d allowed\n", with_text - alone, MOST);
     part("the calls' stack");
     release(&m);
     free(stack);

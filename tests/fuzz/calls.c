@@ -2,19 +2,20 @@
 
    The string: 16 bytes of the unit's record (as they are if the next byte is odd, else made well formed), a byte that
    chooses the contents of memory, then steps. A step is a byte, whose low three bits say what, and its arguments:
-   0 read, 1 write, 2 sprite DMA, 3 line, 4 run, or the record of a log, also with one length near the right one, 5 a byte
-   of memory, 6 a sprite near the next line, 7 a length for the next call, or fresh. LINES says that the archive has
-   ppu_line, ppu_run and ppu_play. */
+   0 read, 1 write, 2 sprite DMA, or a call of the text layer, 3 line, 4 run, or the record of a log, also with one length
+   near the right one, 5 a byte of memory, 6 a sprite near the next line, 7 a length for the next call, or fresh. LINES says
+   that the archive has ppu_line, ppu_run and ppu_play. */
 #include <stdio.h>
 #include <stdlib.h>
 #include <string.h>
 #include "ppu.h"
 #include "second.h"
 
-enum { UNIT, LEFT, RIGHT, NAMETABLES, OAM, PALETTE, LINE, PAGE, LOG, MEMORIES };
+/* SCREEN is the nametable page of the text layer, PAGE the page for sprite DMA. */
+enum { UNIT, LEFT, RIGHT, NAMETABLES, OAM, PALETTE, LINE, PAGE, LOG, SCREEN, ROWS, TABLE, MEMORIES };
 enum { LONGEST = 4096, SLACK = 16, STEPS = 60, MOST_LINES = 24, CONTENTS = 16 };
 
-static const size_t right_length[MEMORIES] = {16, 4096, 4096, 2048, 256, 32, 256, 256, 4};
+static const size_t right_length[MEMORIES] = {16, 4096, 4096, 2048, 256, 32, 256, 256, 4, 1024, 960, 256};
 
 struct side {
     uint8_t memory[MEMORIES][LONGEST + 2 * SLACK];
@@ -115,9 +116,88 @@ static void put_record(int as_it_comes)
 }
 #endif
 
-static void step(unsigned what)
+/* A table of characters: one for all tiles, a few, all different, or any, and some tiles without one. */
+static void put_table(void)
 {
-    unsigned address, byte, memory;
+    unsigned style = take(), first = take(), bare = take();
+    for (unsigned tile = 0; tile < 256; tile++) {
+        unsigned spread = style & 3 ? tile % (style & 1 ? 256 : 1 + style / 4) : 0;
+        unsigned character = (first + (style & 2 ? spread : spread * 77)) % 256;
+        set_byte(TABLE, tile, (uint8_t)(tile * 37 % 256 < bare && style & 128 ? 0 : character));
+    }
+}
+
+/* Rows of characters that stand in the table, as far as it has any, and one as it comes. */
+static void put_rows(void)
+{
+    const uint8_t *table = library.memory[TABLE] + SLACK;
+    unsigned start = take(), step = take() | 1, place = take_two() % 960;
+    unsigned tile = start;
+    for (size_t at = 0; at < 960; at++) {
+        tile = (tile + step) % 256;
+        for (int looked = 0; looked < 256 && table[tile] == 0; looked++)
+            tile = (tile + 1) % 256;
+        set_byte(ROWS, at, table[tile]);
+    }
+    if (start & 1)
+        set_byte(ROWS, place, (uint8_t)take());
+}
+
+/* The page of a quarter of nametable RAM under the unit's wiring. */
+static void put_quarter(void)
+{
+    uint8_t board = library.memory[UNIT][SLACK + 15] & 0x0B;
+    unsigned quarter = take();
+    size_t start = ppu_quarter(board, quarter);
+    if (start != second_quarter(board, quarter)) {
+        fprintf(stderr, "DIFFERENCE of quarter %u, board %u: library %zu\n", quarter, board, start);
+        abort();
+    }
+    for (size_t at = 0; at < 1024; at++)
+        set_byte(SCREEN, at, library.memory[NAMETABLES][SLACK + start + at]);
+}
+
+/* The way back: the text of the page just written is its rows, and no tile is counted. */
+static void come_back(void)
+{
+    uint8_t rows[2][960] = {{0}};
+    uint64_t one = ppu_text(SLICE(library, SCREEN), SLICE(library, TABLE), rows[0], 960);
+    uint64_t other = second_text(SLICE(second, SCREEN), SLICE(second, TABLE), rows[1], 960);
+    for (int side = 0; side < 2; side++)
+        if ((side ? other : one) != 0 || memcmp(rows[side], library.memory[ROWS] + SLACK, 960) != 0) {
+            fprintf(stderr, "DIFFERENCE on the way back from a page: %s\n", side ? "second" : "library");
+            abort();
+        }
+}
+
+/* Text of a page, or page of a text with bit 4, after what the other bits ask for. */
+static void text_layer(unsigned what)
+{
+    if (what & 32)
+        put_table();
+    if (what & 64 && what & 16)
+        put_rows();
+    else if (what & 64)
+        put_quarter();
+    if (what & 128) {
+        int memory = SCREEN + (int)(take() % 3);
+        length[memory] = right_length[memory] - 1 + take() % 3;
+    }
+    if (what & 16) {
+        uint64_t answer = ppu_page(SLICE(library, ROWS), SLICE(library, TABLE), SLICE(library, SCREEN));
+        compare("page", answer, second_page(SLICE(second, ROWS), SLICE(second, TABLE), SLICE(second, SCREEN)));
+        if (ppu_number(answer) == PPU_DONE)
+            come_back();
+        return;
+    }
+    compare("text", ppu_text(SLICE(library, SCREEN), SLICE(library, TABLE), SLICE(library, ROWS)),
+            second_text(SLICE(second, SCREEN), SLICE(second, TABLE), SLICE(second, ROWS)));
+}
+
+/* Steps 0 to 2: a read, a write, sprite DMA or a call of the text layer. */
+static void access_memory(unsigned what)
+{
+    unsigned address, byte;
     switch (what & 7) {
     case 0:
         address = what & 8 ? take_two() : 0x2000 | what >> 4;
@@ -131,31 +211,50 @@ static void step(unsigned what)
                 second_write(SLICE(second, UNIT), address, byte, ACCESS(second)));
         break;
     case 2:
+        if (what & 8) {
+            text_layer(what);
+            break;
+        }
         compare("dma", ppu_dma(SLICE(library, UNIT), SLICE(library, OAM), SLICE(library, PAGE)),
                 second_dma(SLICE(second, UNIT), SLICE(second, OAM), SLICE(second, PAGE)));
         break;
+    }
+}
+
 #ifdef LINES
-    case 3:
+static void play_record(unsigned what)
+{
+    put_record(what & 8);
+    if (what & 128) {
+        unsigned memory = take() % MEMORIES;
+        length[memory] = right_length[memory] - 1 + take() % 3;
+    }
+    compare("play", ppu_play(SLICE(library, UNIT), SLICE(library, LOG), ACCESS(library), SLICE(library, LINE)),
+            second_play(SLICE(second, UNIT), SLICE(second, LOG), ACCESS(second), SLICE(second, LINE)));
+}
+
+/* Steps 3 and 4: a line, a run, or the record of a log. */
+static void run_lines(unsigned what)
+{
+    if ((what & 7) == 3) {
         compare("line", ppu_line(SLICE(library, UNIT), PICTURE(library)), second_line(SLICE(second, UNIT), PICTURE(second)));
-        break;
-    case 4:
-        if (what & 16) {
-            put_record(what & 8);
-            if (what & 128) {
-                memory = take() % MEMORIES;
-                length[memory] = right_length[memory] - 1 + take() % 3;
-            }
-            compare("play", ppu_play(SLICE(library, UNIT), SLICE(library, LOG), ACCESS(library), SLICE(library, LINE)),
-                    second_play(SLICE(second, UNIT), SLICE(second, LOG), ACCESS(second), SLICE(second, LINE)));
-            break;
-        }
-        byte = (what & 8 ? take() : what >> 5) % (MOST_LINES + 1);
-        compare("run", ppu_run(SLICE(library, UNIT), byte, PICTURE(library)),
-                second_run(SLICE(second, UNIT), byte, PICTURE(second)));
-        break;
+    } else if (what & 16) {
+        play_record(what);
+    } else {
+        unsigned lines = (what & 8 ? take() : what >> 5) % (MOST_LINES + 1);
+        compare("run", ppu_run(SLICE(library, UNIT), lines, PICTURE(library)),
+                second_run(SLICE(second, UNIT), lines, PICTURE(second)));
+    }
+}
 #endif
+
+/* Steps 5 to 7: a byte of memory, a sprite, a length or a fresh unit. */
+static void change(unsigned what)
+{
+    unsigned address, byte, memory;
+    switch (what & 7) {
     case 5:
-        memory = what >> 4 & 7;
+        memory = what & 8 ? LOG + (what >> 4 & 3) : what >> 4 & 7;
         address = take_two();
         set_byte(memory, address % right_length[memory], (uint8_t)take());
         break;
@@ -173,6 +272,18 @@ static void step(unsigned what)
         }
         break;
     }
+}
+
+static void step(unsigned what)
+{
+    if ((what & 7) < 3)
+        access_memory(what);
+    else if ((what & 7) > 4)
+        change(what);
+#ifdef LINES
+    else
+        run_lines(what);
+#endif
 }
 
 int LLVMFuzzerTestOneInput(const uint8_t *bytes, size_t size)

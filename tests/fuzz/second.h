@@ -1,4 +1,4 @@
-/* The second picture unit's calls: those of ppu.h under other names. */
+/* The calls of the second picture unit and text layer: those of ppu.h under other names. */
 #ifndef SECOND_H
 #define SECOND_H
 #include <stddef.h>
@@ -16,4 +16,7 @@ uint64_t second_run(uint8_t *unit, size_t, uint16_t lines, const uint8_t *left, 
                     const uint8_t *nametables, size_t, const uint8_t *oam, size_t, uint8_t *line, size_t);
 uint64_t second_play(uint8_t *unit, size_t, const uint8_t *log, size_t, uint8_t *left, size_t, uint8_t *right, size_t,
                      uint8_t *nametables, size_t, uint8_t *oam, size_t, uint8_t *palette, size_t, uint8_t *line, size_t);
+uint64_t second_text(const uint8_t *page, size_t, const uint8_t *table, size_t, uint8_t *rows, size_t);
+uint64_t second_page(const uint8_t *rows, size_t, const uint8_t *table, size_t, uint8_t *page, size_t);
+size_t second_quarter(uint8_t board, unsigned quarter);
 #endif

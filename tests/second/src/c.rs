@@ -7,6 +7,9 @@
 #![allow(clippy::too_many_arguments, clippy::missing_safety_doc)]
 
 use second::calls;
+use second::text;
+#[cfg(not(as_library))]
+use second::unit::Board;
 use std::slice::{from_raw_parts, from_raw_parts_mut};
 
 type Size = usize;
@@ -184,4 +187,47 @@ pub unsafe extern "C" fn play(
         from_raw_parts_mut(line, line_size),
     )
     .into()
+}
+
+#[cfg_attr(as_library, export_name = "ppu_text")]
+#[cfg_attr(not(as_library), export_name = "second_text")]
+pub unsafe extern "C" fn text(
+    page: Shared,
+    page_size: Size,
+    table: Shared,
+    table_size: Size,
+    rows: Mutable,
+    rows_size: Size,
+) -> u64 {
+    text::text(
+        from_raw_parts(page, page_size),
+        from_raw_parts(table, table_size),
+        from_raw_parts_mut(rows, rows_size),
+    )
+    .into()
+}
+
+#[cfg_attr(as_library, export_name = "ppu_page")]
+#[cfg_attr(not(as_library), export_name = "second_page")]
+pub unsafe extern "C" fn page(
+    rows: Shared,
+    rows_size: Size,
+    table: Shared,
+    table_size: Size,
+    page: Mutable,
+    page_size: Size,
+) -> u64 {
+    text::page(
+        from_raw_parts(rows, rows_size),
+        from_raw_parts(table, table_size),
+        from_raw_parts_mut(page, page_size),
+    )
+    .into()
+}
+
+/// Where the page of a quarter begins, for a well-formed board byte; the library has it in the header alone.
+#[cfg(not(as_library))]
+#[export_name = "second_quarter"]
+pub extern "C" fn quarter(board: u8, quarter: u32) -> Size {
+    Board::from_byte(board).map_or(Size::MAX, |board| text::quarter(board, (quarter % 4) as u16))
 }

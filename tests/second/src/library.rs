@@ -65,6 +65,26 @@ extern "C" {
     ) -> u64;
 }
 
+// The text layer, from the archive beside.
+extern "C" {
+    fn ppu_text(
+        page: *const u8,
+        page_size: usize,
+        table: *const u8,
+        table_size: usize,
+        rows: *mut u8,
+        rows_size: usize,
+    ) -> u64;
+    fn ppu_page(
+        rows: *const u8,
+        rows_size: usize,
+        table: *const u8,
+        table_size: usize,
+        page: *mut u8,
+        page_size: usize,
+    ) -> u64;
+}
+
 #[cfg(lines)]
 extern "C" {
     fn ppu_line(
@@ -196,6 +216,14 @@ pub fn play(
             line.len(),
         )
     }
+}
+
+pub fn text(page: &[u8], table: &[u8], rows: &mut [u8]) -> u64 {
+    unsafe { ppu_text(page.as_ptr(), page.len(), table.as_ptr(), table.len(), rows.as_mut_ptr(), rows.len()) }
+}
+
+pub fn page(rows: &[u8], table: &[u8], page: &mut [u8]) -> u64 {
+    unsafe { ppu_page(rows.as_ptr(), rows.len(), table.as_ptr(), table.len(), page.as_mut_ptr(), page.len()) }
 }
 
 #[cfg(lines)]

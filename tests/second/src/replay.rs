@@ -5,13 +5,72 @@
 //! FOLDER has NAME.json, NAME.chr, NAME.l01 and NAME.num, decompressed. Both sides must agree in
 //! everything, and with the capture in each answer (but for status bit 5) and each pixel number.
 //! The library plays the log two more times: with `ppu_run` for lines, and as a log by `ppu_play`.
+//! After each picture the text of its four quarters must be what a table of the tiles themselves gives.
 
 use second::log::Machine;
+use second::text::{self, PAGE, TEXT};
+use second::unit::Board;
 use std::fs;
 use std::process::ExitCode;
 
 const WIDTH: usize = 256;
 const HEIGHT: usize = 240;
+
+/// The byte that stands for a tile without a character.
+const SPACE: u8 = 32;
+const BAD_CHARACTER: u64 = 8;
+
+/// The rows of a page and the answer, of the library; the second text layer's must be the same.
+fn text_of(page: &[u8], table: &[u8]) -> Result<(Vec<u8>, u64), String> {
+    let (mut rows, mut again) = (vec![0xEE; TEXT], vec![0xEE; TEXT]);
+    let answer = library::text(page, table, &mut rows);
+    if (u64::from(text::text(page, table, &mut again)), again) != (answer, rows.clone()) {
+        return Err("library and second text layer differ in a text".into());
+    }
+    Ok((rows, answer))
+}
+
+/// Writes rows into a page, by the library; the second text layer must do the same.
+fn page_of(rows: &[u8], table: &[u8], page: &mut [u8]) -> Result<u64, String> {
+    let mut again = page.to_vec();
+    let answer = library::page(rows, table, page);
+    if u64::from(text::page(rows, table, &mut again)) != answer || again != page {
+        return Err("library and second text layer differ in a page".into());
+    }
+    Ok(answer)
+}
+
+/// A page's text by a table of the tiles themselves, and back; then by the same table without a 32.
+fn text_there_and_back(page: &[u8]) -> Result<(), String> {
+    let mut table: Vec<u8> = (0..=255).collect();
+    let number_of = |tile: u8| page[..TEXT].iter().filter(|&&t| t == tile).count() as u64;
+    let wanted: Vec<u8> = page[..TEXT].iter().map(|&t| if t == 0 { SPACE } else { t }).collect();
+    if text_of(page, &table)? != (wanted.clone(), number_of(0) << 32) {
+        return Err("the text is not the tile bytes, or its count not that of tile 0".into());
+    }
+    // Tile 32 has the space, so that every row can be written; tile 0 has no character and becomes tile 32.
+    let mut other = page.to_vec();
+    other[..TEXT].iter_mut().for_each(|tile| *tile = !*tile);
+    let mut back = other.clone();
+    if page_of(&wanted, &table, &mut back)? != 0 || back[..TEXT] != wanted || back[TEXT..] != page[TEXT..] {
+        return Err("the page of the text is not the text's tiles beside the attribute bytes".into());
+    }
+    if text_of(&back, &table)? != (wanted.clone(), 0) {
+        return Err("the text of that page is not the text that was given, or counts".into());
+    }
+    // Without a 32 tiles 0 and 32 both become spaces, which then have no tile.
+    table[usize::from(SPACE)] = 0;
+    let spaces = number_of(0) + number_of(SPACE);
+    if text_of(page, &table)? != (wanted.clone(), spaces << 32) {
+        return Err("without tile 32 the text differs, or does not count it".into());
+    }
+    back.copy_from_slice(&other);
+    let (due, left) = if spaces == 0 { (0, page) } else { (BAD_CHARACTER, &other[..]) };
+    if page_of(&wanted, &table, &mut back)? != due || back != left {
+        return Err("without tile 32 spaces are not refused, or the page is not the one that is due".into());
+    }
+    Ok(())
+}
 
 /// The library on a machine's record and memory.
 struct Library(Machine);
@@ -46,6 +105,18 @@ impl Library {
     fn play(&mut self, log: &[u8]) -> u64 {
         let Machine { unit, left, right, nametables, oam, palette, line } = &mut self.0;
         library::play(unit, log, left, right, nametables, oam, palette, line)
+    }
+
+    /// A quarter's 1024 bytes as port 7 reads them; the unit is a copy and not drawing.
+    fn quarter(&self, quarter: u16) -> Vec<u8> {
+        let mut copy = Library(Machine { ..self.0 });
+        let control = copy.0.unit[0];
+        copy.read(0x2002);
+        copy.write(0x2000, control & !4); // v rises by one
+        copy.write(0x2006, 0x20 + 4 * quarter as u8);
+        copy.write(0x2006, 0);
+        copy.read(0x2007); // what the read buffer had
+        (0..PAGE).map(|_| (copy.read(0x2007) >> 8) as u8).collect()
     }
 }
 
@@ -109,6 +180,8 @@ struct Tally {
     reads: usize,
     bit_5: usize,
     pictures: usize,
+    /// Pages of text compared.
+    texts: usize,
 }
 
 struct Replay<'a> {
@@ -189,7 +262,23 @@ impl Replay<'_> {
                 "picture {picture} line {line} column {column}: {ours}, the capture has {theirs}"
             ));
         }
-        self.tally.pictures += usize::from(line == HEIGHT - 1);
+        if line == HEIGHT - 1 {
+            self.tally.pictures += 1;
+            (0..4).try_for_each(|quarter| self.compare_text(quarter))?;
+        }
+        Ok(())
+    }
+
+    /// The text of a quarter after a picture.
+    fn compare_text(&mut self, quarter: u16) -> Result<(), String> {
+        let machine = &self.library.0;
+        let board = Board::from_byte(machine.unit[15]).expect("the record is well formed");
+        let page = &machine.nametables[text::quarter(board, quarter)..][..PAGE];
+        if self.library.quarter(quarter) != page {
+            return Err(format!("quarter {quarter} is not the page that port 7 reads"));
+        }
+        text_there_and_back(page).map_err(|why| format!("quarter {quarter}: {why}"))?;
+        self.tally.texts += 1;
         Ok(())
     }
 
@@ -237,10 +326,11 @@ fn verdict(folder: &str, name: &str) -> bool {
     match replay(&capture) {
         Ok(tally) => {
             println!(
-                "  {name}: {} records, {} lines, {} answers ({} apart in status bit 5), {} of {due} pictures",
-                tally.records, tally.lines, tally.reads, tally.bit_5, tally.pictures
+                "  {name}: {} records, {} lines, {} answers ({} apart in status bit 5), {} of {due} pictures, \
+                 {} pages of text",
+                tally.records, tally.lines, tally.reads, tally.bit_5, tally.pictures, tally.texts
             );
-            tally.reads > 0 && tally.pictures == due
+            tally.reads > 0 && tally.pictures == due && tally.texts == 4 * due
         }
         Err(why) => {
             println!("  {name}: DIFFERENCE: {why}");

@@ -19,11 +19,13 @@ pub struct Case {
 pub struct Outcome {
     pub library: (u64, World),
     pub second: (u64, World),
+    /// Whether a page that was written gives its rows back, on either side.
+    pub back: [bool; 2],
 }
 
 impl Outcome {
     pub fn differs(&self) -> bool {
-        self.library != self.second
+        self.library != self.second || self.back != [true, true]
     }
 }
 
@@ -41,6 +43,16 @@ fn brief(bytes: &[u8]) -> String {
     }
 }
 
+/// How many bytes from the front are written as one: many of the same, or else up to a zero or such.
+fn run_length(bytes: &[u8]) -> usize {
+    let same = |at: usize| bytes[at..].iter().take_while(|&&b| b == bytes[at]).count();
+    let ends = |&at: &usize| bytes[at] == 0 || same(at) > 8;
+    match same(0) {
+        many if many > 8 || bytes[0] == 0 => many,
+        few => (few..bytes.len()).find(ends).unwrap_or(bytes.len()),
+    }
+}
+
 fn unhex(text: &str) -> Option<Vec<u8>> {
     if let Some((byte, count)) = text.split_once('*') {
         return Some(vec![u8::from_str_radix(byte, 16).ok()?; count.parse().ok()?]);
@@ -55,7 +67,10 @@ impl Case {
             let mut world = self.before.clone();
             (side(&self.call, &mut world), world)
         };
-        Outcome { library: on(Call::on_library), second: on(Call::on_second) }
+        let (library, second) = (on(Call::on_library), on(Call::on_second));
+        let back =
+            [self.call.back_on_library(library.0, &library.1), self.call.back_on_second(second.0, &second.1)];
+        Outcome { library, second, back }
     }
 
     pub fn text(&self) -> String {
@@ -66,7 +81,7 @@ impl Case {
             Kind::Read => write!(text, " address={:04X}", call.address).unwrap(),
             Kind::Write => write!(text, " address={:04X} byte={:02X}", call.address, call.byte).unwrap(),
             Kind::Run => write!(text, " most={}", call.most).unwrap(),
-            Kind::Dma | Kind::Line | Kind::Play => {}
+            Kind::Dma | Kind::Line | Kind::Play | Kind::Text | Kind::Page => {}
         }
         for name in Name::ALL {
             let length = call.lengths[name as usize];
@@ -74,16 +89,20 @@ impl Case {
                 write!(text, " {}:{length}", name.text()).unwrap();
             }
         }
-        write!(text, " unit={}", hex(&self.before.of(Name::Unit)[..16])).unwrap();
+        let mut shown = 0;
+        if call.kind.has_unit() {
+            write!(text, " unit={}", hex(&self.before.of(Name::Unit)[..16])).unwrap();
+            shown = 16;
+        }
         for name in Name::ALL {
             let bytes = self.before.of(name);
-            let mut at = if name == Name::Unit { 16 } else { 0 };
+            let mut at = if name == Name::Unit { shown } else { 0 };
             while at < bytes.len() {
-                let run = bytes[at..].iter().take_while(|&&b| b != 0).count();
-                if run > 0 {
+                let run = run_length(&bytes[at..]);
+                if bytes[at] != 0 {
                     write!(text, " {}@{at:04X}={}", name.text(), brief(&bytes[at..at + run])).unwrap();
                 }
-                at += run + 1;
+                at += run;
             }
         }
         text
@@ -135,20 +154,33 @@ impl Case {
             let mut size = if name == Name::Unit { 1 } else { all };
             while size > 0 {
                 for at in (0..all).step_by(size) {
-                    let end = all.min(at + size);
-                    if self.before.of(name)[at..end].iter().all(|&b| b == 0) {
-                        continue;
-                    }
-                    let mut less = self.clone();
-                    less.before.of_mut(name)[at..end].fill(0);
-                    if less.outcome().differs() {
-                        self = less;
-                    }
+                    self.simplify(name, at, all.min(at + size));
                 }
                 size /= 2;
             }
         }
         self
+    }
+
+    /// Part of a memory becomes zero if both sides still differ; rows, which may hold no byte 0, become
+    /// all the same as their first or last.
+    fn simplify(&mut self, name: Name, start: usize, end: usize) {
+        let bytes = self.before.of(name);
+        let plain = match name {
+            Name::Rows => vec![0, bytes[0], bytes[name.length() - 1]],
+            _ => vec![0],
+        };
+        for byte in plain {
+            if self.before.of(name)[start..end].iter().all(|&b| b == byte) {
+                return;
+            }
+            let mut less = self.clone();
+            less.before.of_mut(name)[start..end].fill(byte);
+            if less.outcome().differs() {
+                *self = less;
+                return;
+            }
+        }
     }
 
     /// What both sides made of it, for a reader.
@@ -157,12 +189,20 @@ impl Case {
         let mut text = format!("case: {}\n", self.text());
         for (side, (answer, world)) in [("library", &outcome.library), ("second ", &outcome.second)] {
             let (number, byte, nmi) = (answer & 255, answer >> 8 & 255, answer >> 16 & 1);
-            let (lines, rest) = (answer >> 32, answer >> 17 & 0x7FFF);
-            write!(text, "{side}: number {number}, byte {byte:02X}, lines {lines}, nmi {nmi}").unwrap();
+            let (count, rest) = (answer >> 32, answer >> 17 & 0x7FFF);
+            write!(text, "{side}: number {number}, byte {byte:02X}, count {count}, nmi {nmi}").unwrap();
             if rest != 0 {
                 write!(text, ", bits 17 to 31 {rest:04X}").unwrap();
             }
-            writeln!(text, ", unit {}", hex(&world.of(Name::Unit)[..16])).unwrap();
+            if self.call.kind.has_unit() {
+                write!(text, ", unit {}", hex(&world.of(Name::Unit)[..16])).unwrap();
+            }
+            text.push('\n');
+        }
+        for (side, back) in [("library", outcome.back[0]), ("second ", outcome.back[1])] {
+            if !back {
+                writeln!(text, "{side}: the text of the page is not its rows again").unwrap();
+            }
         }
         for name in Name::ALL {
             let (library, second) = (&outcome.library.1, &outcome.second.1);

@@ -1,4 +1,4 @@
-//! Differential tests: the library's archive against the second picture unit.
+//! Differential tests: the library's archives against the second picture unit and text layer.
 //!
 //!     diff [--seed N] [--seconds N] [--sessions N] [--cases FILE]
 //!     diff --seed N --replay SESSION:CALL
@@ -13,6 +13,7 @@ mod mixed;
 mod random;
 mod scenery;
 mod systematic;
+mod text;
 mod trial;
 mod world;
 
@@ -22,11 +23,12 @@ use std::process::ExitCode;
 use std::sync::atomic::{AtomicBool, AtomicU64, Ordering};
 use std::sync::Mutex;
 use std::time::{Duration, Instant};
-use trial::{Stop, Tally, Trial};
+use trial::{Stop, Tally, Trial, NUMBERS};
 use world::Kind;
 
 const MIXED_CALLS: usize = 2000;
 const PICTURE_CALLS: usize = 500;
+const TEXT_CALLS: usize = 500;
 
 struct Options {
     seed: u64,
@@ -78,10 +80,10 @@ fn session(seed: u64, number: u64, trial: &mut Trial) -> Result<(), Stop> {
         }
         left -= parts;
     }
-    if left.is_multiple_of(3) {
-        mixed::pictures(trial, &mut random, PICTURE_CALLS)
-    } else {
-        mixed::session(trial, &mut random, MIXED_CALLS)
+    match left % 6 {
+        0 | 3 => mixed::pictures(trial, &mut random, PICTURE_CALLS),
+        5 => text::session(trial, &mut random, TEXT_CALLS),
+        _ => mixed::session(trial, &mut random, MIXED_CALLS),
     }
 }
 
@@ -167,7 +169,7 @@ fn print_tally(tally: &Tally) {
     for kind in Kind::ALL {
         let answers = tally.answers[kind as usize];
         let refused: Vec<String> =
-            (1..6).filter(|&n| answers[n] > 0).map(|n| format!("{} refused {n}", answers[n])).collect();
+            (1..NUMBERS).filter(|&n| answers[n] > 0).map(|n| format!("{} refused {n}", answers[n])).collect();
         let refused = if refused.is_empty() { String::new() } else { format!(", {}", refused.join(", ")) };
         println!("  {:5} {:9} calls: {} done{refused}", kind.text(), tally.of_kind(kind), answers[0]);
     }
@@ -181,6 +183,11 @@ fn print_tally(tally: &Tally) {
         tally.sprite_pixels,
         tally.background_pixels
     );
+    println!(
+        "  {} tiles without a character; the text of each of {} pages written is its rows again",
+        tally.bare_tiles,
+        tally.answers[Kind::Page as usize][0]
+    );
 }
 
 /// Each kind of call was done, and refused for each reason that it can be.
@@ -189,6 +196,8 @@ fn is_whole(tally: &Tally) -> bool {
         Kind::Fresh | Kind::Dma | Kind::Line | Kind::Run => vec![0, 2, 3],
         Kind::Read | Kind::Write => vec![0, 1, 2, 3, 4],
         Kind::Play => vec![0, 1, 2, 3, 4, 5],
+        Kind::Text => vec![0, 2],
+        Kind::Page => vec![0, 2, 8],
     };
     let asked = |kind: &Kind| library::LINES || !kind.runs_lines();
     let lines = [
@@ -201,12 +210,13 @@ fn is_whole(tally: &Tally) -> bool {
     ];
     Kind::ALL.into_iter().filter(asked).all(|k| reasons(k).iter().all(|&n| tally.answers[k as usize][n] > 0))
         && (!library::LINES || lines.iter().all(|&n| n > 0))
+        && tally.bare_tiles > 0
 }
 
 /// The kept cases, then the sessions, with a report of what was done.
 fn compare(options: &Options) -> ExitCode {
     if !library::LINES {
-        println!("the archive has no ppu_line and ppu_run: fresh, accesses and sprite DMA only");
+        println!("the archive has no ppu_line and ppu_run: fresh, accesses, sprite DMA and text only");
     }
     if let Some(path) = &options.cases {
         let Some(played) = kept_cases(path) else { return ExitCode::FAILURE };

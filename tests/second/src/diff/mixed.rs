@@ -101,7 +101,8 @@ fn scatter_sprites(trial: &mut Trial, random: &mut Random, name: Name) {
     trial.set(name, &scenery::oam(random, line));
 }
 
-fn mislength(random: &mut Random, call: &mut Call) {
+/// Another length for a memory that the call is lent, or for some.
+pub fn mislength(random: &mut Random, call: &mut Call) {
     loop {
         let name = random.pick(call.kind.lent());
         let right = name.length();

@@ -115,6 +115,40 @@ pub fn nametables(random: &mut Random) -> [u8; 2048] {
     cells
 }
 
+/// A table of characters with a random share of tiles without one.
+pub fn characters(random: &mut Random) -> [u8; 256] {
+    let bare = random.pick(&[0, 0, 1, 2, 16, 128, 240, 255, 256]);
+    let kinds = random.pick(&[1, 2, 16, 96, 255]);
+    let any = random.within(1, 255);
+    let first = random.pick(&[1, 32, any]);
+    let mut table = [0; 256];
+    for character in &mut table {
+        if random.below(256) >= bare {
+            *character = (1 + (first - 1 + random.below(kinds)) % 255) as u8;
+        }
+    }
+    table
+}
+
+/// What no row may hold under a table: byte 0, and characters that are not in it.
+pub fn strangers(table: &[u8; 256]) -> Vec<u8> {
+    (0..=255).filter(|c| *c == 0 || !table.contains(c)).collect()
+}
+
+/// Rows drawn from a table, with so many strangers in random places.
+pub fn rows(random: &mut Random, table: &[u8; 256], number: usize) -> [u8; 960] {
+    let known: Vec<u8> = table.iter().copied().filter(|&c| c != 0).collect();
+    let mut rows = [32; 960];
+    if !known.is_empty() {
+        rows = rows.map(|_| random.pick(&known));
+    }
+    let strangers = strangers(table);
+    for _ in 0..number {
+        rows[random.below(960)] = random.pick(&strangers);
+    }
+    rows
+}
+
 /// OAM whose sprites have to do with the line.
 pub fn oam(random: &mut Random, line: u16) -> [u8; 256] {
     let mut oam = [0; 256];

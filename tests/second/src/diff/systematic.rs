@@ -2,18 +2,19 @@
 
 use crate::random::Random;
 use crate::scenery;
+use crate::text;
 use crate::trial::{Stop, Trial};
-use crate::world::{Call, Kind, Name, SLACK};
+use crate::world::{Call, Kind, Name, KINDS, SLACK};
 
 pub type Session = fn(&mut Trial, &mut Random, usize) -> Result<(), Stop>;
 
 /// Each kind of session, with the number of parts that it comes in.
-pub const SESSIONS: [(&str, Session, usize); 22] = [
+pub const SESSIONS: [(&str, Session, usize); 29] = [
     ("boards", boards, 1),
     ("addresses", addresses, 16),
     ("ports", ports, 8),
-    ("lengths", lengths, 7),
-    ("pairs of lengths", pairs_of_lengths, 7),
+    ("lengths", lengths, KINDS),
+    ("pairs of lengths", pairs_of_lengths, KINDS),
     ("records", records, 7),
     ("wide fields", wide_fields, 12),
     ("video memory", video_memory, 16),
@@ -31,6 +32,13 @@ pub const SESSIONS: [(&str, Session, usize); 22] = [
     ("runs of a log", runs_of_a_log, 8),
     ("lengths by a log", lengths_by_a_log, 1),
     ("order of refusals", order_of_refusals, 3),
+    ("tables of characters", text::tables, 8),
+    ("places of a page", text::places_of_a_page, 2),
+    ("places of the rows", text::places_of_rows, 4),
+    ("characters", text::characters, 4),
+    ("attribute bytes", text::attribute_bytes, 1),
+    ("three lengths", text::three_lengths, 2),
+    ("quarters", text::quarters, 8),
 ];
 
 /// New contents everywhere.
@@ -41,7 +49,8 @@ pub fn refill(trial: &mut Trial, random: &mut Random) {
     trial.set(Name::Right, &scenery::table(random));
     trial.set(Name::Nametables, &scenery::nametables(random));
     trial.set(Name::Oam, &scenery::oam(random, scenery::next_line(&unit)));
-    for name in [Name::Palette, Name::Line, Name::Page, Name::Log] {
+    trial.set(Name::Table, &scenery::characters(random));
+    for name in [Name::Palette, Name::Line, Name::Page, Name::Log, Name::Screen, Name::Rows] {
         let mut bytes = vec![0; name.length()];
         random.fill(&mut bytes);
         trial.set(name, &bytes);
@@ -67,7 +76,8 @@ fn unit_at_line(random: &mut Random, line: u16) -> [u8; 16] {
     unit
 }
 
-/// A call of the kind, its arguments random and mostly accepted; for play a record is put into the log.
+/// A call of the kind, its arguments random and mostly accepted; for play a record is put into the log,
+/// for the text layer a table and a page or rows are made.
 pub fn some_call(trial: &mut Trial, random: &mut Random, kind: Kind) -> Call {
     let address = match random.below(16) {
         0 => random.pick(&[0, 0x1FF8, 0x1FFF, 0x4000, 0x4007, 0x8000, 0xFFFF]),
@@ -85,6 +95,17 @@ pub fn some_call(trial: &mut Trial, random: &mut Random, kind: Kind) -> Call {
         Kind::Play => {
             trial.set(Name::Log, &scenery::log_record(random, address));
             Call::play()
+        }
+        Kind::Text => {
+            trial.set(Name::Screen, &scenery::nametables(random)[..1024]);
+            trial.set(Name::Table, &scenery::characters(random));
+            Call::text()
+        }
+        Kind::Page => {
+            let (table, strangers) = (scenery::characters(random), random.pick(&[0, 0, 1, 2000]));
+            trial.set(Name::Table, &table);
+            trial.set(Name::Rows, &scenery::rows(random, &table, strangers));
+            Call::page()
         }
     }
 }

@@ -2,11 +2,11 @@
 
 use crate::case::Case;
 use crate::scenery::next_line;
-use crate::world::{Call, Kind, Name, World};
+use crate::world::{Call, Kind, Name, World, KINDS};
 
 /// Why a session ends before its time.
 pub enum Stop {
-    /// The sides differ after the call of this number.
+    /// The sides differ after the call of this number, or a page it wrote does not give its rows back.
     Difference(u64),
     /// The call that was asked for is reached.
     Reached(Box<Case>),
@@ -14,10 +14,13 @@ pub enum Stop {
     Late,
 }
 
+/// Numbers that a call can answer, 6 and 7 being none.
+pub const NUMBERS: usize = 9;
+
 /// What has been done, by kind of call and number answered.
 #[derive(Clone, Default)]
 pub struct Tally {
-    pub answers: [[u64; 6]; 7],
+    pub answers: [[u64; NUMBERS]; KINDS],
     pub lines_run: u64,
     pub early_stops: u64,
     /// Runs of a log that went on after line 241 although control bit 7 was set.
@@ -26,6 +29,8 @@ pub struct Tally {
     pub overflows: u64,
     pub sprite_pixels: u64,
     pub background_pixels: u64,
+    /// Tiles without a character, as text calls count them.
+    pub bare_tiles: u64,
 }
 
 impl Tally {
@@ -40,6 +45,7 @@ impl Tally {
         self.overflows += other.overflows;
         self.sprite_pixels += other.sprite_pixels;
         self.background_pixels += other.background_pixels;
+        self.bare_tiles += other.bare_tiles;
     }
 
     pub fn of_kind(&self, kind: Kind) -> u64 {
@@ -70,6 +76,11 @@ impl<'a> Trial<'a> {
         self.library.of(Name::Unit)[..16].try_into().unwrap()
     }
 
+    /// A memory, which is the same on both sides.
+    pub fn of(&self, name: Name) -> &[u8] {
+        self.library.of(name)
+    }
+
     /// Fills the front of a memory, the same on both sides.
     pub fn set(&mut self, name: Name, bytes: &[u8]) {
         self.set_at(name, 0, bytes);
@@ -96,7 +107,11 @@ impl<'a> Trial<'a> {
         let before = self.unit();
         let answer = call.on_library(&mut self.library);
         let expected = call.on_second(&mut self.second);
-        if answer != expected || self.library != self.second {
+        let alike = answer == expected && self.library == self.second;
+        if !alike
+            || !call.back_on_library(answer, &self.library)
+            || !call.back_on_second(answer, &self.second)
+        {
             return Err(Stop::Difference(self.calls));
         }
         self.calls += 1;
@@ -106,9 +121,11 @@ impl<'a> Trial<'a> {
 
     fn count(&mut self, call: &Call, answer: u64, before: &[u8; 16]) {
         let tally = &mut self.tally;
-        tally.answers[call.kind as usize][(answer & 7) as usize] += 1;
+        tally.answers[call.kind as usize][(answer & 255) as usize] += 1;
         let lines = answer >> 32;
-        if lines > 0 {
+        if call.kind == Kind::Text {
+            tally.bare_tiles += answer >> 32;
+        } else if lines > 0 {
             let unit = self.library.of(Name::Unit);
             let raised = unit[2] & !before[2];
             let to_241 = (241 + 262 - u64::from(next_line(before))) % 262 + 1;

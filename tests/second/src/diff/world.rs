@@ -12,15 +12,34 @@ pub enum Name {
     Line,
     Page,
     Log,
+    /// The nametable page of the text layer; `Page` is the one for sprite DMA.
+    Screen,
+    Rows,
+    /// The table of characters.
+    Table,
 }
 
 use Name::*;
 
 impl Name {
-    pub const ALL: [Name; 9] = [Unit, Left, Right, Nametables, Oam, Palette, Line, Page, Log];
+    pub const ALL: [Name; NAMES] =
+        [Unit, Left, Right, Nametables, Oam, Palette, Line, Page, Log, Screen, Rows, Table];
 
     pub fn text(self) -> &'static str {
-        ["unit", "left", "right", "nametables", "oam", "palette", "line", "page", "log"][self as usize]
+        [
+            "unit",
+            "left",
+            "right",
+            "nametables",
+            "oam",
+            "palette",
+            "line",
+            "page",
+            "log",
+            "screen",
+            "rows",
+            "table",
+        ][self as usize]
     }
 
     pub fn length(self) -> usize {
@@ -28,8 +47,10 @@ impl Name {
     }
 }
 
+pub const NAMES: usize = 12;
+
 /// The right lengths; a log may be longer than the record at its front.
-pub const LENGTHS: [usize; 9] = [16, 4096, 4096, 2048, 256, 32, 256, 256, 4];
+pub const LENGTHS: [usize; NAMES] = [16, 4096, 4096, 2048, 256, 32, 256, 256, 4, 1024, 960, 256];
 
 /// Bytes beyond the right length that a call may be lent.
 pub const SLACK: usize = 64;
@@ -64,7 +85,7 @@ impl Memory {
 }
 
 #[derive(Clone, PartialEq, Eq)]
-pub struct World(pub [Memory; 9]);
+pub struct World(pub [Memory; NAMES]);
 
 impl World {
     pub fn new() -> World {
@@ -89,14 +110,29 @@ pub enum Kind {
     Line,
     Run,
     Play,
+    /// The text of a page.
+    Text,
+    /// The page of a text.
+    Page,
 }
 
+pub const KINDS: usize = 9;
+
 impl Kind {
-    pub const ALL: [Kind; 7] =
-        [Kind::Fresh, Kind::Read, Kind::Write, Kind::Dma, Kind::Line, Kind::Run, Kind::Play];
+    pub const ALL: [Kind; KINDS] = [
+        Kind::Fresh,
+        Kind::Read,
+        Kind::Write,
+        Kind::Dma,
+        Kind::Line,
+        Kind::Run,
+        Kind::Play,
+        Kind::Text,
+        Kind::Page,
+    ];
 
     pub fn text(self) -> &'static str {
-        ["fresh", "read", "write", "dma", "line", "run", "play"][self as usize]
+        ["fresh", "read", "write", "dma", "line", "run", "play", "text", "page"][self as usize]
     }
 
     /// The memories that such a call is lent.
@@ -107,7 +143,13 @@ impl Kind {
             Kind::Dma => &[Unit, Oam, Page],
             Kind::Line | Kind::Run => &[Unit, Left, Right, Nametables, Oam, Line],
             Kind::Play => &[Unit, Log, Left, Right, Nametables, Oam, Palette, Line],
+            Kind::Text | Kind::Page => &[Screen, Rows, Table],
         }
+    }
+
+    /// Whether such a call is of a unit; those of the text layer are not.
+    pub fn has_unit(self) -> bool {
+        self.lent().contains(&Unit)
     }
 
     /// Line and run, which an archive may not have yet.
@@ -124,14 +166,16 @@ pub struct Call {
     pub address: u16,
     pub byte: u8,
     pub most: u16,
-    pub lengths: [usize; 9],
+    pub lengths: [usize; NAMES],
 }
 
 macro_rules! performed {
-    ($side:path, $call:expr, $world:expr) => {{
+    ($side:path, $layer:path, $call:expr, $world:expr) => {{
+        use $layer as layer;
         use $side as side;
         let (call, lengths) = ($call, $call.lengths);
-        let [unit, left, right, nametables, oam, palette, line, page, log] = &mut $world.0;
+        let [unit, left, right, nametables, oam, palette, line, page, log, screen, rows, table] =
+            &mut $world.0;
         let unit = &mut unit.bytes_mut()[..lengths[0]];
         let left = &mut left.bytes_mut()[..lengths[1]];
         let right = &mut right.bytes_mut()[..lengths[2]];
@@ -141,15 +185,22 @@ macro_rules! performed {
         let line = &mut line.bytes_mut()[..lengths[6]];
         let page = &mut page.bytes_mut()[..lengths[7]];
         let log = &mut log.bytes_mut()[..lengths[8]];
-        u64::from(match call.kind {
-            Kind::Fresh => side::fresh(unit, call.byte),
-            Kind::Read => side::read(unit, call.address, left, right, nametables, oam, palette),
-            Kind::Write => side::write(unit, call.address, call.byte, left, right, nametables, oam, palette),
-            Kind::Dma => side::dma(unit, oam, page),
-            Kind::Line => side::line(unit, left, right, nametables, oam, line),
-            Kind::Run => side::run(unit, call.most, left, right, nametables, oam, line),
-            Kind::Play => side::play(unit, log, left, right, nametables, oam, palette, line),
-        })
+        let screen = &mut screen.bytes_mut()[..lengths[9]];
+        let rows = &mut rows.bytes_mut()[..lengths[10]];
+        let table = &mut table.bytes_mut()[..lengths[11]];
+        match call.kind {
+            Kind::Fresh => side::fresh(unit, call.byte).into(),
+            Kind::Read => side::read(unit, call.address, left, right, nametables, oam, palette).into(),
+            Kind::Write => {
+                side::write(unit, call.address, call.byte, left, right, nametables, oam, palette).into()
+            }
+            Kind::Dma => side::dma(unit, oam, page).into(),
+            Kind::Line => side::line(unit, left, right, nametables, oam, line).into(),
+            Kind::Run => side::run(unit, call.most, left, right, nametables, oam, line).into(),
+            Kind::Play => side::play(unit, log, left, right, nametables, oam, palette, line).into(),
+            Kind::Text => layer::text(screen, table, rows).into(),
+            Kind::Page => layer::page(rows, table, screen).into(),
+        }
     }};
 }
 
@@ -186,16 +237,46 @@ impl Call {
         Call::new(Kind::Play)
     }
 
+    pub fn text() -> Call {
+        Call::new(Kind::Text)
+    }
+
+    pub fn page() -> Call {
+        Call::new(Kind::Page)
+    }
+
     pub fn with_length(mut self, name: Name, length: usize) -> Call {
         self.lengths[name as usize] = length;
         self
     }
 
     pub fn on_library(&self, world: &mut World) -> u64 {
-        performed!(library, self, world)
+        performed!(library, library, self, world)
     }
 
     pub fn on_second(&self, world: &mut World) -> u64 {
-        performed!(second::calls, self, world)
+        performed!(second::calls, second::text, self, world)
     }
+
+    /// Whether the call, with that answer, did not write a page, or the library's text of the page is
+    /// its rows again.
+    pub fn back_on_library(&self, answer: u64, world: &World) -> bool {
+        !self.wrote_page(answer) || gives_back(world, library::text)
+    }
+
+    pub fn back_on_second(&self, answer: u64, world: &World) -> bool {
+        !self.wrote_page(answer)
+            || gives_back(world, |page, table, rows| second::text::text(page, table, rows).into())
+    }
+
+    fn wrote_page(&self, answer: u64) -> bool {
+        self.kind == Kind::Page && answer & 255 == 0
+    }
+}
+
+/// The way back: the page's text is the rows, and no tile of it is counted.
+fn gives_back(world: &World, text: fn(&[u8], &[u8], &mut [u8]) -> u64) -> bool {
+    let [page, rows, table] = [Screen, Rows, Table].map(|name| &world.of(name)[..name.length()]);
+    let mut back: Vec<u8> = rows.iter().map(|&byte| !byte).collect();
+    text(page, table, &mut back) == 0 && back == rows
 }
