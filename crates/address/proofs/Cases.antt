@@ -1,6 +1,6 @@
 -- The ways of each function, for `search`.
 use Prim.Native.Nat.{ℕ, _+_, _-_, _*_, _/_, _%_, _<_, _≤_}
-use mathlib.Core.Path.{_≡_, ap, _∙_}
+use mathlib.Core.Path.{_≡_, sym, ap, _∙_}
 use mathlib.Core.Bool.{Bool, true, false}
 use mathlib.Core.List.{List, [], _∷_}
 use native.Mathlib.Nat.{add-sub-cancel-left}
@@ -39,13 +39,13 @@ module _ (w : Wiring) (a p r : ℕ) where
 pub ruleset cell-cases = (cell-1)
 
 module _ (a : ℕ) where
-  pub palette-1 : a % 4 ≡ 0 → a % 16 ≡ paletteCell a
+  pub palette-1 : (k r : ℕ) → k ≡ a % 4 → k ≡ 0 → r ≡ a % 16 → r ≡ paletteCell a
   unfolding paletteCell
-  palette-1 p = simp (eq-eqb _ _ p)
+  palette-1 k r e p h = h ∙ simp (eq-eqb _ _ (sym e ∙ p))
 
-  pub palette-2 : (a % 4 ≡ 0 → ⊥) → a % 32 ≡ paletteCell a
+  pub palette-2 : (k r : ℕ) → k ≡ a % 4 → (k ≡ 0 → ⊥) → r ≡ a % 32 → r ≡ paletteCell a
   unfolding paletteCell
-  palette-2 p = simp (ne-eqb _ _ p)
+  palette-2 k r e p h = h ∙ simp (ne-eqb _ _ (λ z. p (e ∙ z)))
 
 pub ruleset palette-cases = (palette-1, palette-2)
 

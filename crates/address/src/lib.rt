@@ -53,10 +53,10 @@ pub fn cell(w: Wiring, a: u16) -> usize
 pub fn palette_cell(a: usize) -> usize
     ensures { λ r. ⌜ (r ≡ paletteCell a) × (r < 32) ⌝ }
 {
-    if a % 4 == 0 {
-        return a % 16;
+    if bits::low(a, 2) == 0 {
+        return bits::low(a, 4);
     }
-    a % 32
+    bits::low(a, 5)
 }
 
 // The place that v leads to.

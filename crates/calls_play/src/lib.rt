@@ -3,8 +3,8 @@
 // Within: read_done, read, play_entry.
 ghost use mathlib.Core.Path.{_≡_};
 ghost use lib.ListN.{length};
-ghost use Rattle.model.specs.Unit.{state, accessMemory, video, VideoLengths, oamLength, playMemory};
-ghost use Rattle.model.specs.Calls.{accessOutcome, playOutcome, onLent, readCall, readDone, own};
+ghost use Rattle.model.specs.Unit.{state, accessMemory, video, VideoLengths, oamLength, lineMemory};
+ghost use Rattle.model.specs.Calls.{accessOutcome, lineOutcome, onLent, readCall, readDone, own};
 ghost use Rattle.model.specs.Log.{playEntry, playCall};
 use model::Access;
 use model::Entry;
@@ -69,16 +69,17 @@ pub fn play_entry(
     oam: &mut [u8],
     palette: &mut [u8],
     line: &mut [u8],
+    colours: &mut [u16],
 ) -> Access
-    ensures { λ r. ⌜ playOutcome r (now (left .exit)) (now (right .exit)) (now (nametables .exit)) (now (oam .exit)) (now (palette .exit)) (now (line .exit)) ≡
-        playEntry e (state u (playMemory (now (left .entry)) (now (right .entry)) (now (nametables .entry)) (now (oam .entry)) (now (palette .entry)) (now (line .entry)))) ⌝ }
+    ensures { λ r. ⌜ lineOutcome r (now (left .exit)) (now (right .exit)) (now (nametables .exit)) (now (oam .exit)) (now (palette .exit)) (now (line .exit)) (now (colours .exit)) ≡
+        playEntry e (state u (lineMemory (now (left .entry)) (now (right .entry)) (now (nametables .entry)) (now (oam .entry)) (now (palette .entry)) (now (line .entry)) (now (colours .entry)))) ⌝ }
 {
     match e {
         Entry::Read(address) => read(u, address, left, right, nametables, oam, palette),
         Entry::Write(address, byte) => {
             accesses::write(u, address, byte, left, right, nametables, oam, palette)
         }
-        Entry::Run(n) => runs::run_all(u, n, left, right, nametables, oam, line),
+        Entry::Run(n) => runs::run_all(u, n, left, right, nametables, oam, palette, line, colours),
         Entry::Refused => unit::refused(5, u),
     }
 }
@@ -93,11 +94,12 @@ pub fn play(
     oam: &mut [u8],
     palette: &mut [u8],
     line: &mut [u8],
+    colours: &mut [u16],
 ) -> Access
-    ensures { λ r. ⌜ playOutcome r (now (left .exit)) (now (right .exit)) (now (nametables .exit)) (now (oam .exit)) (now (palette .exit)) (now (line .exit)) ≡
-        playCall (now (log .entry)) (state u (playMemory (now (left .entry)) (now (right .entry)) (now (nametables .entry)) (now (oam .entry)) (now (palette .entry)) (now (line .entry)))) ⌝ }
+    ensures { λ r. ⌜ lineOutcome r (now (left .exit)) (now (right .exit)) (now (nametables .exit)) (now (oam .exit)) (now (palette .exit)) (now (line .exit)) (now (colours .exit)) ≡
+        playCall (now (log .entry)) (state u (lineMemory (now (left .entry)) (now (right .entry)) (now (nametables .entry)) (now (oam .entry)) (now (palette .entry)) (now (line .entry)) (now (colours .entry)))) ⌝ }
 {
     let s = reader::read_at(log, 0);
     let e = s.found;
-    play_entry(e, u, left, right, nametables, oam, palette, line)
+    play_entry(e, u, left, right, nametables, oam, palette, line, colours)
 }

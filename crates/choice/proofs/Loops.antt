@@ -1,5 +1,5 @@
 -- The loops over the 64 sprites: what holds at their head. Distances, counts, marks, and the list of the marked places.
-use Prim.Native.Nat.{ℕ, zero, suc, _+_, _*_, _<_, _≤_}
+use Prim.Native.Nat.{ℕ, zero, suc, _+_, _*_, _%_, _<_, _≤_}
 use mathlib.Core.Path.{_≡_, refl, sym, _∙_}
 use mathlib.Core.Bool.{Bool, true, false, cond}
 use mathlib.Core.Logic.{⊎-elim}
@@ -8,13 +8,15 @@ use native.Mathlib.Omega.{arith}
 use native.Mathlib.Numerals.{add-one}
 use native.Mathlib.Nat.{add-zero, add-suc}
 use lib.Bits.{bitOr, or-add-and, and-le-l, and-le-r}
+use lib.Seq.{getD-set-same}
+use borrow.Author.Needs.{read-below}
 use lib.Dec.{eqb}
 use lib.ListN.{length, getD, set, take, drop, length-set}
 use Rattle.model.specs.Line.{tab}
-use Rattle.model.specs.Sprites.{placesOf, countOf}
-use Rattle.model.proofs.Tab.{tab-none, tab-more, tab-done, getD-tab}
+use Rattle.model.specs.Sprites.{oamAt, placesOf, countOf}
+use Rattle.model.proofs.Tab.{tab-none, tab-more, tab-done, getD-tab, tab-cong}
 use Rattle.model.proofs.Scroll.{lt-or-ge}
-use Rattle.choice.specs.Distance.{distanceOf, distanceAt, isFrom, near, markOf, Marks, isMarked, orOf}
+use Rattle.choice.specs.Distance.{distanceOf, distanceAt, distanceIn, isFrom, near, markOf, Marks, isMarked, orOf}
 use Rattle.choice.proofs.Places.{count-le, count-more, count-cong, places-more, places-cong, y-at}
 
 -- the first i values of g are stored
@@ -34,15 +36,51 @@ module _ (g : ℕ → ℕ) (d₀ d : List ℕ) (i : ℕ) (m : Filled g d₀ d i)
   filled-done ge = tab-done g i 64 d₀ d (omega arith) h (m .stored)
 
 -- by distances, and by marks
-pub measured-more : (n : ℕ) (o d₀ d : List ℕ) (i : ℕ) → Filled (distanceAt n o) d₀ d i → length d₀ ≡ 64 → (v : ℕ) → i < 64 → v ≡ distanceOf n (getD o (4 * i) 0)
-    → Filled (distanceAt n o) d₀ (set d i v) (i + 1)
-unfolding distanceAt
-measured-more n o d₀ d i m h v lt e = filled-more (distanceAt n o) d₀ d i m h v lt (rw (sym (y-at o i)) e)
+pub measured-more : (n : ℕ) (w d₀ d : List ℕ) (i : ℕ) → Filled (distanceIn n w) d₀ d i → length d₀ ≡ 64 → (y v : ℕ) → i < 64 → y ≡ getD w i 0 % 256 → v ≡ distanceOf n y
+    → Filled (distanceIn n w) d₀ (set d i v) (i + 1)
+unfolding distanceIn
+measured-more n w d₀ d i m h y v lt z e = filled-more (distanceIn n w) d₀ d i m h v lt (rw z at e)
 
 pub marked-more : (d : List ℕ) (from t : ℕ) (m₀ m : List ℕ) (i : ℕ) → Filled (markOf d from t) m₀ m i → length m₀ ≡ 64 → (v : ℕ) → i < 64
     → v ≡ cond (isFrom from t (getD d i 0)) 1 0 → Filled (markOf d from t) m₀ (set m i v) (i + 1)
 unfolding markOf near
 marked-more d from t m₀ m i f h v lt e = filled-more (markOf d from t) m₀ m i f h v lt e
+
+-- the first i sprites stand in words, their Y bytes lowest
+pub record Worded (o w : List ℕ) (i : ℕ) : Type 0 where
+  pub room : i ≤ 64
+  pub long : length w ≡ 64
+  pub lows : (j : ℕ) → j < i → getD w j 0 % 256 ≡ oamAt o j 0
+
+pub worded-start : (o w : List ℕ) → length w ≡ 64 → Worded o w 0
+worded-start o w h = record { room = omega arith; long = h; lows = λ j lt. omega (arith, lt) }
+
+module _ (o w : List ℕ) (i : ℕ) (m : Worded o w i) where
+  pub worded-more : (v : ℕ) → i < 64 → v % 256 ≡ oamAt o i 0 → Worded o (set w i v) (i + 1)
+  worded-more v lt e =
+      record {
+        room = omega arith;
+        long = simp length-set (m .long);
+        lows =
+            λ j below.
+            ⊎-elim
+            (λ (less : j < i). rw (read-below ℕ w i j v 0 (getD w j 0) less refl) (m .lows j less))
+            (λ (ge : i ≤ j). let z : j ≡ i = omega arith in rw z (rw (getD-set-same w i v 0 (omega (arith, m .long))) e))
+            (lt-or-ge j i);
+      }
+
+  pub worded-done : 64 ≤ i → (j : ℕ) → j < 64 → getD w j 0 % 256 ≡ oamAt o j 0
+  worded-done ge j lt = m .lows j (omega arith)
+
+pub ruleset worded-loop = (worded-start, worded-more, worded-done)
+
+pub word-low : (o : List ℕ) (i a b c d : ℕ) → a ≡ getD o (4 * i) 0 → a < 256 → (a + b * 256 + c * 65536 + d * 16777216) % 256 ≡ oamAt o i 0
+word-low o i a b c d e lt = let z : (a + b * 256 + c * 65536 + d * 16777216) % 256 ≡ a = omega arith in z ∙ e ∙ y-at o i
+
+-- so the distances out of the words are those out of OAM
+pub worded-distances : (n : ℕ) (o w d : List ℕ) → ((j : ℕ) → j < 64 → getD w j 0 % 256 ≡ oamAt o j 0) → d ≡ tab (distanceIn n w) 64 → d ≡ tab (distanceAt n o) 64
+unfolding distanceIn distanceAt
+worded-distances n o w d h e = e ∙ tab-cong (distanceIn n w) (distanceAt n o) 64 (λ k lt. rw (h k lt))
 
 pub ruleset filled-loop = (filled-start, measured-more, marked-more, filled-done)
 

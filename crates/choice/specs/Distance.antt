@@ -1,7 +1,7 @@
 -- The choice of sprites as the code makes it: by the line's distance from each sprite's Y byte.
 use mathlib.Core.Bool.{Bool, cond, _&&_}
 use mathlib.Core.List.{List}
-use Prim.Native.Nat.{ℕ, zero, suc, _+_, _-_, _<_, _≤_}
+use Prim.Native.Nat.{ℕ, zero, suc, _+_, _-_, _%_, _<_, _≤_}
 use lib.Bits.{bitOr}
 use lib.Dec.{leb, ltb, eqb}
 use lib.ListN.{getD}
@@ -14,6 +14,10 @@ distanceOf n y = cond (leb y n) (n - y) 255
 -- and below the Y byte of sprite i
 unfoldable pub distanceAt : ℕ → List ℕ → ℕ → ℕ
 distanceAt n o i = distanceOf n (oamAt o i 0)
+
+-- how far line n is below the Y byte in word i
+unfoldable pub distanceIn : ℕ → List ℕ → ℕ → ℕ
+distanceIn n w i = distanceOf n (getD w i 0 % 256)
 
 -- d is one of the h numbers from `from`
 unfoldable pub isFrom : ℕ → ℕ → ℕ → Bool

@@ -1,14 +1,14 @@
 // The choice of the eight sprites that a line shows, and overflow. Inner functions, not public calls.
-// choose. Within: height, distance, distances, near_one, count, marks, any8, list_eight, list_some, list_marked, list_places, at_most_eight.
+// choose. Within: height, distance, wide32, lowest, word, words, from_words, distances, near_one, count, marks, any8, list_eight, list_some, list_marked, list_places, at_most_eight.
 ghost use mathlib.Core.Path.{_≡_};
 ghost use mathlib.Core.Bool.{cond};
 ghost use mathlib.Core.List.{[]};
-ghost use Prim.Native.Nat.{_+_, _-_, _<_, _≤_};
+ghost use Prim.Native.Nat.{ℕ, _+_, _-_, _%_, _<_, _≤_};
 ghost use lib.Dec.{eqb, ltb};
-ghost use lib.ListN.{length, take};
+ghost use lib.ListN.{length, getD, take};
 ghost use Rattle.model.specs.Line.{tab};
-ghost use Rattle.model.specs.Sprites.{height as heightOf, covers, placesOf, countOf, overflows};
-ghost use Rattle.choice.specs.Distance.{distanceOf, distanceAt, isFrom, near, markOf, isMarked, Marks, orOf};
+ghost use Rattle.model.specs.Sprites.{oamAt, height as heightOf, covers, placesOf, countOf, overflows};
+ghost use Rattle.choice.specs.Distance.{distanceOf, distanceAt, distanceIn, isFrom, near, markOf, isMarked, Marks, orOf};
 
 // How many sprites the line shows, at most eight, and whether more than eight cover it.
 pub struct Choice {
@@ -30,16 +30,63 @@ fn distance(n: u8, y: u8) -> u8
     if y <= n { n - y } else { 255 }
 }
 
+// A byte as a wider number.
+fn wide32(b: u8) -> u32
+    ensures { λ r. ⌜ (r ≡ b) × (r < 256) ⌝ }
+{
+    b as u32
+}
+
+// The lowest byte of a word.
+fn lowest(w: u32) -> u8
+    ensures { λ r. ⌜ r ≡ w % 256 ⌝ }
+{
+    (w & 255) as u8
+}
+
+// The four bytes of sprite i in a word: its Y byte is the lowest.
+fn word(oam: &[u8], i: usize) -> u32
+    requires { ⌜ (length (now oam) ≡ 256) × (i < 64) ⌝ }
+    ensures { λ r. ⌜ r % 256 ≡ oamAt (now (oam .entry)) i 0 ⌝ }
+{
+    wide32(oam[4 * i])
+        + wide32(oam[4 * i + 1]) * 256
+        + wide32(oam[4 * i + 2]) * 65536
+        + wide32(oam[4 * i + 3]) * 16777216
+}
+
+// All 64 sprites as words. The compiler then loads four at a time, where it would load Y bytes one by one.
+fn words(oam: &[u8], w: &mut [u32])
+    requires { ⌜ (length (now oam) ≡ 256) × (length (now w) ≡ 64) ⌝ }
+    ensures { λ _. ⌜ ((i : ℕ) → i < 64 → getD (now (w .exit)) i 0 % 256 ≡ oamAt (now (oam .entry)) i 0) ⌝ }
+{
+    let mut i = 0;
+    while i < 64 {
+        w[i] = word(oam, i);
+        i += 1;
+    }
+}
+
+// The distance of line n from each sprite's Y byte, out of the sprites' words.
+fn from_words(n: u8, w: &[u32], d: &mut [u8])
+    requires { ⌜ (length (now w) ≡ 64) × (length (now d) ≡ 64) ⌝ }
+    ensures { λ _. ⌜ now (d .exit) ≡ tab (distanceIn n (now (w .entry))) 64 ⌝ }
+{
+    let mut i = 0;
+    while i < 64 {
+        d[i] = distance(n, lowest(w[i]));
+        i += 1;
+    }
+}
+
 // The distance of line n from each sprite's Y byte.
 fn distances(n: u8, oam: &[u8], d: &mut [u8])
     requires { ⌜ (length (now oam) ≡ 256) × (length (now d) ≡ 64) ⌝ }
     ensures { λ _. ⌜ now (d .exit) ≡ tab (distanceAt n (now (oam .entry))) 64 ⌝ }
 {
-    let mut i = 0;
-    while i < 64 {
-        d[i] = distance(n, oam[4 * i]);
-        i += 1;
-    }
+    let mut w = [0u32; 64];
+    words(oam, &mut w);
+    from_words(n, &w, d);
 }
 
 // 1 if the distance d is one of the h numbers from `from`, else 0.

@@ -1,7 +1,7 @@
 -- The play of a log, and of a block of one, for `search`.
 use Prim.Native.Nat.{ℕ, suc, _+_, _-_, _*_, _/_, _<_, _≤_, min}
-use mathlib.Core.Path.{_≡_, refl, sym, ap, _∙_}
-use mathlib.Core.Bool.{Bool, true, false, cond, _||_}
+use mathlib.Core.Path.{_≡_, refl, sym, ap, _∙_, subst}
+use mathlib.Core.Bool.{Bool, true, false, true≢false, cond, _||_}
 use mathlib.Core.List.{List, [], _++_, append-assoc, append-nil}
 use mathlib.Core.Logic.{⊎-elim}
 use native.Mathlib.Omega.{arith}
@@ -15,24 +15,27 @@ use Rattle.model.specs.declared.Access.{Access}
 use Rattle.model.specs.declared.Entry.{Entry}
 use Rattle.model.specs.declared.Entry.the-variants.{Read, Write, Run, Refused}
 use Rattle.model.specs.Unit.{Memory, State, state}
-use Rattle.model.specs.Calls.{Outcome, outcomeOn, playOutcome}
+use Rattle.model.specs.Calls.{Outcome, outcomeOn}
 use Rattle.model.specs.Log.{recordsOf, entryOf, playEntry, entryText, ends, playedText, playedState, playEnds}
 use Rattle.model.proofs.Scroll.{lt-or-ge}
-use Rattle.model.proofs.Log.{run-line, text-short, text-first, state-first, ends-first}
+use Rattle.model.proofs.Good.{SameLengths, same-long, same-then}
+use Rattle.model.proofs.Log.{run-line, entry-long, text-short, text-first, state-first, ends-first}
+use Rattle.reader.specs.declared.Step.{Step}
 use Rattle.log.specs.declared.Played.{Played}
+use Rattle.log.specs.declared.Going.{Going}
 use Rattle.answers.specs.Printable.{Printable}
-use Rattle.log.specs.Play.{IsStep, IsPlay, wholeBytes}
+use Rattle.log.specs.Play.{IsStep, IsFound, IsNext, IsPlay, wholeBytes}
 
 -- its text can be printed
-pub printable : (e : Entry) (s : State) (x : Access) (l r n o p b : List ℕ) → playOutcome x l r n o p b ≡ playEntry e s → Printable e x
+pub printable : (e : Entry) (s : State) (x : Access) (m : Memory) → outcomeOn x m ≡ playEntry e s → Printable e x
 unfolding Printable
-printable (Read a) s x l r n o p b h = tt
-printable (Write a c) s x l r n o p b h = tt
-printable (Run k) s x l r n o p b h = λ z.
+printable (Read a) s x m h = tt
+printable (Write a c) s x m h = tt
+printable (Run k) s x m h = λ z.
     let f : x .unit .scanline ≡ playEntry (Run k) s .after .unit .scanline = ap (λ (y : Outcome). y .after .unit .scanline) h in
     let g = run-line k s (ap (λ (y : Outcome). y .answer .number) (sym h) ∙ z) in
     omega arith
-printable Refused s x l r n o p b h = tt
+printable Refused s x m h = tt
 
 pub step-done : (e : Entry) (s : State) (x : Access) (m : Memory) (out out′ : List ℕ) (at w : ℕ) (y : Played) → outcomeOn x m ≡ playEntry e s
     → out′ ≡ sets out at (entryText e (x .answer) (x .unit .scanline)) → w ≡ at + length (entryText e (x .answer) (x .unit .scanline))
@@ -47,18 +50,23 @@ step-done e s x m out out′ at w y h f g k =
       ended = ap (λ (o : Outcome). eqb (o .answer .number) 5) h;
     })
 
--- A LOG: played up to a place
-pub record Playing (log out₀ : List ℕ) (s₀ s : State) (out : List ℕ) (at w : ℕ) : Type 0 where
-  pub place : at ≤ length log
+-- A LOG: played up to a place, the log's end where a refusal 5 has ended the play
+pub record Playing (log out₀ : List ℕ) (s₀ : State) (g : Going) (m : Memory) (out : List ℕ) : Type 0 where
+  pub place : g .at ≤ length log
+  pub over : g .ended ≡ true → length log ≤ g .at
   pub long : length out ≡ length out₀
-  pub room : w + 15 * ((length log - at + 3) / 4) ≤ length out₀
-  pub text : playedText (recordsOf log) s₀ ≡ take w out ++ playedText (recordsOf (drop at log)) s
-  pub rest : drop w out ≡ drop w out₀
-  pub left : playedState (recordsOf log) s₀ ≡ playedState (recordsOf (drop at log)) s
-  pub goes : playEnds (recordsOf log) s₀ ≡ playEnds (recordsOf (drop at log)) s
+  pub lengths : SameLengths (s₀ .memory) m
+  pub room : g .written + 15 * ((length log - g .at + 3) / 4) ≤ length out₀
+  pub text : playedText (recordsOf log) s₀ ≡ take (g .written) out ++ playedText (recordsOf (drop (g .at) log)) (state (g .unit) m)
+  pub rest : drop (g .written) out ≡ drop (g .written) out₀
+  pub left : playedState (recordsOf log) s₀ ≡ playedState (recordsOf (drop (g .at) log)) (state (g .unit) m)
+  pub goes : playEnds (recordsOf log) s₀ ≡ g .ended || playEnds (recordsOf (drop (g .at) log)) (state (g .unit) m)
 
-pub play-start : (log out : List ℕ) (s : State) → 15 * ((length log + 3) / 4) ≤ length out → Playing log out s s out 0 0
-play-start log out s h = record { place = omega arith; long = refl; room = omega arith; text = refl; rest = refl; left = refl; goes = refl }
+pub play-start : (log out : List ℕ) (u : Ppu) (m : Memory) (g : Going) → 15 * ((length log + 3) / 4) ≤ length out → g ≡ record { unit = u; at = 0; written = 0; ended = false }
+    → Playing log out (state u m) g m out
+play-start log out u m g h e =
+    rw e
+    (record { place = omega arith; over = λ z. absurd (true≢false (sym z)); long = refl; lengths = same-long m; room = omega arith; text = refl; rest = refl; left = refl; goes = refl })
 
 -- a text stored behind the first w bytes
 module _ (out out′ t : List ℕ) (w : ℕ) (h : w + length t ≤ length out) (e : out′ ≡ sets out w t) where
@@ -87,68 +95,139 @@ drop-least k l =
 drop-length-pos : (at : ℕ) (l : List ℕ) → at < length l → 0 < length (drop at l)
 drop-length-pos at l h = simp length-drop (omega arith)
 
-module _ (log out₀ : List ℕ) (s₀ s : State) (out : List ℕ) (at w : ℕ) (y : Playing log out₀ s₀ s out at w) (h : at < length log)
-    (e : Entry) (x : Played) (m : Memory) (out′ : List ℕ) (i : IsStep e s out w x m out′) (f : e ≡ entryOf (recordsOf (drop at log))) where
+module _ (log out₀ : List ℕ) (s₀ : State) (g : Going) (m : Memory) (out : List ℕ) (y : Playing log out₀ s₀ g m out) (h : g .at < length log)
+    (x : Going) (m′ : Memory) (out′ : List ℕ) (i : IsNext log g m out x m′ out′) where
+  abbrev s : State
+  s = state (g .unit) m
+
+  abbrev e : Entry
+  e = entryOf (recordsOf (drop (g .at) log))
+
   abbrev t : List ℕ
   t = entryText e (playEntry e s .answer) (playEntry e s .after .unit .scanline)
 
+  abbrev w : ℕ
+  w = g .written
+
+  short : length t ≤ 15
+  short = text-short e (playEntry e s .answer) (playEntry e s .after .unit .scanline)
+
   fits : w + length t ≤ length out
-  fits = omega (arith, y .room, y .long, text-short e (playEntry e s .answer) (playEntry e s .after .unit .scanline))
-
-  front-text : playedText (recordsOf (drop at log)) s ≡ t ++ cond (ends (playEntry e s)) [] (playedText (recordsOf (drop 4 (drop at log))) (playEntry e s .after))
-  front-text = rw f (text-first (drop at log) s (drop-length-pos at log h))
-
-  front-state : playedState (recordsOf (drop at log)) s ≡ cond (ends (playEntry e s)) (playEntry e s .after) (playedState (recordsOf (drop 4 (drop at log))) (playEntry e s .after))
-  front-state = rw f (state-first (drop at log) s (drop-length-pos at log h))
-
-  front-ends : playEnds (recordsOf (drop at log)) s ≡ ends (playEntry e s) || playEnds (recordsOf (drop 4 (drop at log))) (playEntry e s .after)
-  front-ends = rw f (ends-first (drop at log) s (drop-length-pos at log h))
+  fits = omega (arith, y .room, y .long, short)
 
   rest-same : drop (w + length t) out ≡ drop (w + length t) out₀
   rest-same = drop-more w (length t) out out₀ (y .rest)
 
-  pub play-ended : x .ended ≡ true → IsPlay log s₀ out₀ x m out′
-  play-ended k =
-      let z : ends (playEntry e s) ≡ true = sym (i .ended) ∙ k in
-      let text : playedText (recordsOf log) s₀ ≡ take w out ++ t =
-      y .text ∙ ap (λ (a : List ℕ). take w out ++ a) (front-text ∙ rw z (append-nil t)) in
-      record {
-        after = i .after ∙ sym (y .left ∙ front-state ∙ rw z);
-        text = stored-at out out′ t w fits (i .text) ∙ rw (text, i .written, rest-same);
-        written = rw (text, i .written) (sym (head-long out out′ t w fits (i .text)));
-        ended = k ∙ sym (y .goes ∙ front-ends ∙ rw z);
-      }
+  after : playEntry e s .after ≡ state (x .unit) m′
+  after = sym (i .step .after)
 
-  pub play-more : (at′ : ℕ) (s′ : State) → x .ended ≡ false → at′ ≡ min (at + 4) (length log) → s′ ≡ state (x .unit) m → Playing log out₀ s₀ s′ out′ at′ (x .written)
-  play-more at′ s′ k g c =
-      let z : ends (playEntry e s) ≡ false = sym (i .ended) ∙ k in
-      let d : drop 4 (drop at log) ≡ drop at′ log = drop-drop 4 at log ∙ sym (drop-least (at + 4) log) ∙ ap (λ (a : ℕ). drop a log) (sym g) in
-      let a : playEntry e s .after ≡ s′ = sym (i .after) ∙ sym c in
+  -- the play was not over, and what is left of it is the entry and what is left then
+  open-still : g .ended ≡ false
+  open-still = go (g .ended) (y .over)
+    where
+      go : (b : Bool) → (b ≡ true → length log ≤ g .at) → b ≡ false
+      go true o = absurd (omega (arith, o refl, h))
+      go false o = refl
+
+  gone : x .at ≡ length log → drop (x .at) log ≡ []
+  gone z = drop-of-length-le log {i = x .at} (omega (arith, z))
+
+  behind : x .at ≡ min (g .at + 4) (length log) → drop 4 (drop (g .at) log) ≡ drop (x .at) log
+  behind z = drop-drop 4 (g .at) log ∙ sym (drop-least (g .at + 4) log) ∙ ap (λ (a : ℕ). drop a log) (sym z)
+
+  rest-text : playedText (recordsOf (drop (g .at) log)) s ≡ t ++ playedText (recordsOf (drop (x .at) log)) (state (x .unit) m′)
+  rest-text = text-first (drop (g .at) log) s (drop-length-pos (g .at) log h) ∙ go (x .ended) (i .place) (i .step .ended)
+    where
+      go : (b : Bool) → x .at ≡ cond b (length log) (min (g .at + 4) (length log)) → b ≡ ends (playEntry e s)
+          → t ++ cond (ends (playEntry e s)) [] (playedText (recordsOf (drop 4 (drop (g .at) log))) (playEntry e s .after)) ≡ t ++ playedText (recordsOf (drop (x .at) log)) (state (x .unit) m′)
+      go true p z = rw (← z, gone p) (unfold recordsOf playedText in refl)
+      go false p z = rw (← z, behind p, after)
+
+  rest-state : playedState (recordsOf (drop (g .at) log)) s ≡ playedState (recordsOf (drop (x .at) log)) (state (x .unit) m′)
+  rest-state = state-first (drop (g .at) log) s (drop-length-pos (g .at) log h) ∙ go (x .ended) (i .place) (i .step .ended)
+    where
+      go : (b : Bool) → x .at ≡ cond b (length log) (min (g .at + 4) (length log)) → b ≡ ends (playEntry e s)
+          → cond (ends (playEntry e s)) (playEntry e s .after) (playedState (recordsOf (drop 4 (drop (g .at) log))) (playEntry e s .after)) ≡ playedState (recordsOf (drop (x .at) log)) (state (x .unit) m′)
+      go true p z = rw (← z, gone p) (unfold recordsOf playedState in after)
+      go false p z = rw (← z, behind p, after)
+
+  rest-ends : playEnds (recordsOf (drop (g .at) log)) s ≡ x .ended || playEnds (recordsOf (drop (x .at) log)) (state (x .unit) m′)
+  rest-ends = ends-first (drop (g .at) log) s (drop-length-pos (g .at) log h) ∙ go (x .ended) (i .place) (i .step .ended)
+    where
+      go : (b : Bool) → x .at ≡ cond b (length log) (min (g .at + 4) (length log)) → b ≡ ends (playEntry e s)
+          → ends (playEntry e s) || playEnds (recordsOf (drop 4 (drop (g .at) log))) (playEntry e s .after) ≡ b || playEnds (recordsOf (drop (x .at) log)) (state (x .unit) m′)
+      go true p z = rw (← z)
+      go false p z = rw (← z, behind p, after)
+
+  -- places: a record further, or at the end
+  pub next-falls : length log - x .at < length log - g .at
+  next-falls = go (x .ended) (i .place)
+    where
+      go : (b : Bool) → x .at ≡ cond b (length log) (min (g .at + 4) (length log)) → length log - x .at < length log - g .at
+      go true p = omega (arith, p, h)
+      go false p = omega (arith, p, h)
+
+  next-place : x .at ≤ length log
+  next-place = go (x .ended) (i .place)
+    where
+      go : (b : Bool) → x .at ≡ cond b (length log) (min (g .at + 4) (length log)) → x .at ≤ length log
+      go true p = omega (arith, p)
+      go false p = omega (arith, p)
+
+  next-over : x .ended ≡ true → length log ≤ x .at
+  next-over z = let p : x .at ≡ length log = rw z at (i .place) in omega (arith, p)
+
+  next-room : x .written + 15 * ((length log - x .at + 3) / 4) ≤ length out₀
+  next-room = go (x .ended) (i .place)
+    where
+      go : (b : Bool) → x .at ≡ cond b (length log) (min (g .at + 4) (length log)) → x .written + 15 * ((length log - x .at + 3) / 4) ≤ length out₀
+      go true p = omega (arith, p, h, y .room, i .step .written, short)
+      go false p = omega (arith, p, h, y .room, i .step .written, short)
+
+  pub play-more : Playing log out₀ s₀ x m′ out′
+  play-more =
       record {
-        place = omega arith;
-        long = ap length (i .text) ∙ length-sets out w t ∙ y .long;
-        room = omega (arith, y .room, i .written, g, text-short e (playEntry e s .answer) (playEntry e s .after .unit .scanline));
+        place = next-place;
+        over = next-over;
+        long = ap length (i .step .text) ∙ length-sets out w t ∙ y .long;
+        lengths = same-then (y .lengths) (subst (λ (z : State). SameLengths m (z .memory)) after (entry-long e s));
+        room = next-room;
         text =
-            y .text ∙ ap (λ (b : List ℕ). take w out ++ b) (front-text ∙ rw (z, d, a)) ∙ sym (append-assoc (take w out) t (playedText (recordsOf (drop at′ log)) s′))
-            ∙ rw (i .written, stored-take out out′ t w fits (i .text));
-        rest = rw (i .written) (stored-drop out out′ t w fits (i .text) ∙ rest-same);
-        left = y .left ∙ front-state ∙ rw (z, d, a);
-        goes = y .goes ∙ front-ends ∙ rw (z, d, a);
+            y .text ∙ ap (λ (b : List ℕ). take w out ++ b) rest-text ∙ sym (append-assoc (take w out) t (playedText (recordsOf (drop (x .at) log)) (state (x .unit) m′)))
+            ∙ rw (i .step .written, stored-take out out′ t w fits (i .step .text));
+        rest = rw (i .step .written) (stored-drop out out′ t w fits (i .step .text) ∙ rest-same);
+        left = y .left ∙ rest-state;
+        goes = y .goes ∙ rw open-still rest-ends;
       }
 
-pub play-done : (log out₀ : List ℕ) (s₀ : State) (u : Ppu) (m : Memory) (out : List ℕ) (at w : ℕ) (x : Played) → Playing log out₀ s₀ (state u m) out at w → length log ≤ at
-    → x ≡ record { unit = u; written = w; ended = false } → IsPlay log s₀ out₀ x m out
+pub play-done : (log out₀ : List ℕ) (s₀ : State) (g : Going) (m : Memory) (out : List ℕ) (x : Played) → Playing log out₀ s₀ g m out → length log ≤ g .at
+    → x ≡ record { unit = g .unit; written = g .written; ended = g .ended } → IsPlay log s₀ out₀ x m out
 unfolding recordsOf playedText playedState playEnds
-play-done log out₀ s₀ u m out at w x y h k =
-    let d : drop at log ≡ [] = drop-of-length-le log {i = at} h in
-    let text : playedText (recordsOf log) s₀ ≡ take w out = y .text ∙ rw d (append-nil (take w out)) in
+play-done log out₀ s₀ g m out x y h k =
+    let d : drop (g .at) log ≡ [] = drop-of-length-le log {i = g .at} h in
+    let text : playedText (recordsOf log) s₀ ≡ take (g .written) out = y .text ∙ rw d (append-nil (take (g .written) out)) in
     rw k
     (record {
       after = sym (y .left ∙ rw d);
-      text = rw text (sym (take-append-drop w out) ∙ ap (λ (a : List ℕ). take w out ++ a) (y .rest));
-      written = rw text (sym (length-take-le w out (omega (arith, y .room, y .long))));
-      ended = sym (y .goes ∙ rw d);
+      text = rw text (sym (take-append-drop (g .written) out) ∙ ap (λ (a : List ℕ). take (g .written) out ++ a) (y .rest));
+      written = rw text (sym (length-take-le (g .written) out (omega (arith, y .room, y .long))));
+      ended = sym (y .goes ∙ rw d (or-none (g .ended)));
     })
+  where
+    or-none : (b : Bool) → b || false ≡ b
+    or-none true = refl
+    or-none false = refl
+
+pub play-room : (log out₀ : List ℕ) (s₀ : State) (g : Going) (m : Memory) (out : List ℕ) → Playing log out₀ s₀ g m out → g .at < length log → g .written + 15 ≤ length out
+play-room log out₀ s₀ g m out y h = omega (arith, y .room, y .long, h)
+
+pub next-done : (log : List ℕ) (f : Step) (g : Going) (m : Memory) (out : List ℕ) (m′ : Memory) (out′ : List ℕ) (x : Going) → f .found ≡ entryOf (recordsOf (drop (g .at) log))
+    → f .next .at ≡ min (g .at + 4) (length log) → IsFound f g (length log) m out x m′ out′ → IsNext log g m out x m′ out′
+next-done log f g m out m′ out′ x e n i =
+    record {
+      step = subst (λ (z : Entry). IsStep z (state (g .unit) m) out (g .written) (record { unit = x .unit; written = x .written; ended = x .ended }) m′ out′) e (i .step);
+      place = i .place ∙ rw n;
+    }
 
 -- what is written stands in the output
 pub written-fits : (log : List ℕ) (s : State) (out : List ℕ) (x : Played) (m : Memory) (out′ : List ℕ) → IsPlay log s out x m out′ → x .written ≤ length out′
@@ -157,7 +236,7 @@ written-fits log s out x m out′ i =
     ap length (i .text) ∙ length-append (playedText (recordsOf log) s) (drop (x .written) out) in
     omega (arith, e, i .written)
 
-pub ruleset play-cases = (play-start, play-ended, play-more, play-done)
+pub ruleset play-cases = (play-start, play-more, play-done, play-room, next-falls)
 
 -- A BLOCK: whole records, and all where the log ends
 module _ (last : Bool) (n r : ℕ) where

@@ -1,13 +1,16 @@
 // The play of a log of accesses on a unit and lent memory, with what the player prints of it. Inner functions, not public calls.
-// play_one (one entry and its text), play_log (a whole log), play_block (a block of a longer log), whole, keep.
+// play_one (one entry and its text), place_after, play_found, play_next (the next record of a log), play_log (a whole log), play_block (a block of a
+// longer log), whole, keep.
 ghost use mathlib.Core.Path.{_≡_};
+ghost use mathlib.Core.Bool.{cond};
 ghost use mathlib.Core.List.{_++_};
 ghost use Prim.Native.Nat.{_+_, _-_, _*_, _/_, _≤_};
 ghost use lib.ListN.{length, take, drop};
-ghost use Rattle.model.specs.Unit.{state, playMemory};
-ghost use Rattle.log.specs.Play.{IsStep, IsPlay, wholeBytes};
+ghost use Rattle.model.specs.Unit.{state, lineMemory};
+ghost use Rattle.log.specs.Play.{IsStep, IsFound, IsNext, IsPlay, wholeBytes};
 use model::Entry;
 use model::Ppu;
+use reader::Step;
 
 // A play: the unit after it, how many bytes of the output are written, and whether a refusal 5 has ended it.
 pub struct Played {
@@ -22,6 +25,14 @@ pub struct Block {
     pub kept: usize,
 }
 
+// A play that goes on: the same, and the place of the next record, the log's end where none is played any more.
+pub struct Going {
+    pub unit: Ppu,
+    pub at: usize,
+    pub written: usize,
+    pub ended: bool,
+}
+
 // An entry's call, and its text stored in the output from place `at` on.
 fn play_one(
     e: Entry,
@@ -34,12 +45,13 @@ fn play_one(
     oam: &mut [u8],
     palette: &mut [u8],
     line: &mut [u8],
+    colours: &mut [u16],
 ) -> Played
     requires { ⌜ at + 15 ≤ length (now out) ⌝ }
-    ensures { λ r. ⌜ IsStep e (state u (playMemory (now (left .entry)) (now (right .entry)) (now (nametables .entry)) (now (oam .entry)) (now (palette .entry)) (now (line .entry))))
-        (now (out .entry)) at r (playMemory (now (left .exit)) (now (right .exit)) (now (nametables .exit)) (now (oam .exit)) (now (palette .exit)) (now (line .exit))) (now (out .exit)) ⌝ }
+    ensures { λ r. ⌜ IsStep e (state u (lineMemory (now (left .entry)) (now (right .entry)) (now (nametables .entry)) (now (oam .entry)) (now (palette .entry)) (now (line .entry)) (now (colours .entry))))
+        (now (out .entry)) at r (lineMemory (now (left .exit)) (now (right .exit)) (now (nametables .exit)) (now (oam .exit)) (now (palette .exit)) (now (line .exit)) (now (colours .exit))) (now (out .exit)) ⌝ }
 {
-    let x = calls_play::play_entry(e, u, left, right, nametables, oam, palette, line);
+    let x = calls_play::play_entry(e, u, left, right, nametables, oam, palette, line, colours);
     let written = answers::put_text(e, x, out, at);
     let answer = x.answer;
     let unit = x.unit;
@@ -48,6 +60,93 @@ fn play_one(
         written,
         ended: answer.number == 5,
     }
+}
+
+// Where the play of a log goes on: at the record behind the last; at the log's end, where a refusal 5 has ended it.
+fn place_after(ended: bool, next: usize, end: usize) -> usize
+    ensures { λ r. ⌜ r ≡ cond ended end next ⌝ }
+{
+    if ended {
+        return end;
+    }
+    next
+}
+
+// What stands at the place of a play, played; `end` is the log's.
+fn play_found(
+    s: Step,
+    g: Going,
+    end: usize,
+    out: &mut [u8],
+    left: &mut [u8],
+    right: &mut [u8],
+    nametables: &mut [u8],
+    oam: &mut [u8],
+    palette: &mut [u8],
+    line: &mut [u8],
+    colours: &mut [u16],
+) -> Going
+    requires { ⌜ g .written + 15 ≤ length (now out) ⌝ }
+    ensures { λ r. ⌜ IsFound s g end (lineMemory (now (left .entry)) (now (right .entry)) (now (nametables .entry)) (now (oam .entry)) (now (palette .entry)) (now (line .entry)) (now (colours .entry)))
+        (now (out .entry)) r (lineMemory (now (left .exit)) (now (right .exit)) (now (nametables .exit)) (now (oam .exit)) (now (palette .exit)) (now (line .exit)) (now (colours .exit))) (now (out .exit)) ⌝ }
+{
+    let e = s.found;
+    let u = g.unit;
+    let p = play_one(
+        e,
+        u,
+        out,
+        g.written,
+        left,
+        right,
+        nametables,
+        oam,
+        palette,
+        line,
+        colours,
+    );
+    let next = s.next;
+    let at = place_after(p.ended, next.at, end);
+    let unit = p.unit;
+    Going {
+        unit,
+        at,
+        written: p.written,
+        ended: p.ended,
+    }
+}
+
+// The record at the place of a play, played.
+fn play_next(
+    g: Going,
+    log: &[u8],
+    out: &mut [u8],
+    left: &mut [u8],
+    right: &mut [u8],
+    nametables: &mut [u8],
+    oam: &mut [u8],
+    palette: &mut [u8],
+    line: &mut [u8],
+    colours: &mut [u16],
+) -> Going
+    requires { ⌜ g .written + 15 ≤ length (now out) ⌝ }
+    ensures { λ r. ⌜ IsNext (now (log .entry)) g (lineMemory (now (left .entry)) (now (right .entry)) (now (nametables .entry)) (now (oam .entry)) (now (palette .entry)) (now (line .entry)) (now (colours .entry)))
+        (now (out .entry)) r (lineMemory (now (left .exit)) (now (right .exit)) (now (nametables .exit)) (now (oam .exit)) (now (palette .exit)) (now (line .exit)) (now (colours .exit))) (now (out .exit)) ⌝ }
+{
+    let s = reader::read_at(log, g.at);
+    play_found(
+        s,
+        g,
+        log.len(),
+        out,
+        left,
+        right,
+        nametables,
+        oam,
+        palette,
+        line,
+        colours,
+    )
 }
 
 // A log played into the output, which must have room for the longest line, 15 bytes, of each record.
@@ -61,31 +160,37 @@ pub fn play_log(
     oam: &mut [u8],
     palette: &mut [u8],
     line: &mut [u8],
+    colours: &mut [u16],
 ) -> Played
     requires { ⌜ 15 * ((length (now log) + 3) / 4) ≤ length (now out) ⌝ }
-    ensures { λ r. ⌜ IsPlay (now (log .entry)) (state u (playMemory (now (left .entry)) (now (right .entry)) (now (nametables .entry)) (now (oam .entry)) (now (palette .entry)) (now (line .entry))))
-        (now (out .entry)) r (playMemory (now (left .exit)) (now (right .exit)) (now (nametables .exit)) (now (oam .exit)) (now (palette .exit)) (now (line .exit))) (now (out .exit)) ⌝ }
+    ensures { λ r. ⌜ IsPlay (now (log .entry)) (state u (lineMemory (now (left .entry)) (now (right .entry)) (now (nametables .entry)) (now (oam .entry)) (now (palette .entry)) (now (line .entry)) (now (colours .entry))))
+        (now (out .entry)) r (lineMemory (now (left .exit)) (now (right .exit)) (now (nametables .exit)) (now (oam .exit)) (now (palette .exit)) (now (line .exit)) (now (colours .exit))) (now (out .exit)) ⌝ }
 {
-    let mut n = u;
-    let mut at = 0;
-    let mut to = 0; // where the next text goes
-    while at < log.len() {
-        let s = reader::read_at(log, at);
-        let e = s.found;
-        let p = play_one(e, n, out, to, left, right, nametables, oam, palette, line);
-        if p.ended {
-            return p;
-        }
-        let moved = s.next;
-        let after = p.unit;
-        n = after;
-        at = moved.at;
-        to = p.written;
-    }
-    Played {
-        unit: n,
-        written: to,
+    let mut g = Going {
+        unit: u,
+        at: 0,
+        written: 0,
         ended: false,
+    };
+    while g.at < log.len() {
+        g = play_next(
+            g,
+            log,
+            out,
+            left,
+            right,
+            nametables,
+            oam,
+            palette,
+            line,
+            colours,
+        );
+    }
+    let unit = g.unit;
+    Played {
+        unit,
+        written: g.written,
+        ended: g.ended,
     }
 }
 
@@ -127,10 +232,11 @@ pub fn play_block(
     oam: &mut [u8],
     palette: &mut [u8],
     line: &mut [u8],
+    colours: &mut [u16],
 ) -> Block
     requires { ⌜ (n ≤ length (now block)) × (15 * ((n + 3) / 4) ≤ length (now out)) ⌝ }
-    ensures { λ r. ⌜ IsPlay (take (wholeBytes last n) (now (block .entry))) (state u (playMemory (now (left .entry)) (now (right .entry)) (now (nametables .entry)) (now (oam .entry)) (now (palette .entry)) (now (line .entry))))
-        (now (out .entry)) (r .played) (playMemory (now (left .exit)) (now (right .exit)) (now (nametables .exit)) (now (oam .exit)) (now (palette .exit)) (now (line .exit))) (now (out .exit))
+    ensures { λ r. ⌜ IsPlay (take (wholeBytes last n) (now (block .entry))) (state u (lineMemory (now (left .entry)) (now (right .entry)) (now (nametables .entry)) (now (oam .entry)) (now (palette .entry)) (now (line .entry)) (now (colours .entry))))
+        (now (out .entry)) (r .played) (lineMemory (now (left .exit)) (now (right .exit)) (now (nametables .exit)) (now (oam .exit)) (now (palette .exit)) (now (line .exit)) (now (colours .exit))) (now (out .exit))
         × (r .kept ≡ n - wholeBytes last n)
         × (now (block .exit) ≡ take (n - wholeBytes last n) (drop (wholeBytes last n) (now (block .entry))) ++ drop (n - wholeBytes last n) (now (block .entry))) ⌝ }
 {
@@ -145,6 +251,7 @@ pub fn play_block(
         oam,
         palette,
         line,
+        colours,
     );
     let kept = keep(block, used, n);
     Block { played, kept }

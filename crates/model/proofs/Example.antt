@@ -13,13 +13,13 @@ use Rattle.model.specs.Address.{placeOf, byteAt, cellOf, pageAt, palette
 use Rattle.model.specs.Ports.{stepped, wroteControl, wroteMask, wroteOamaddr, wroteScroll, wroteAddress, wrotePort, wroteMemory, wroteOamBytes, wroteVideo, readByte, readStatus, readData, readUnit, statusByte, dataByte, bufferByte}
 use Rattle.model.specs.Line.{oneLine, blankUnit, idleLine, vblankLine, preRenderLine, linesRun, untilVblank, nmiCount, lineCount}
 use Rattle.model.specs.Calls.{Call, onLent, call, refusalOf, order, done, readDone, writeDone, lineDone, runDone}
-use Rattle.model.specs.Reload.{end, endOf, totalOf, trace, dataCall, seven, joined, reload, bytesOnly, Quiet, Pair, Held}
+use Rattle.model.specs.Reload.{end, endOf, totalOf, trace, dataCall, seven, joined, reload, allBelow, Quiet, Pair, Held}
 use Rattle.model.specs.Example.{filled, short, start, one, two, further, Example}
 use Rattle.model.proofs.Tests.{and-both}
 use Rattle.model.proofs.Needed.{places, bytes, lengths, held, quiet}
 use Rattle.model.proofs.Reloaded.{demand3}
 use Rattle.model.proofs.Records.{pair-kept}
-use Rattle.model.proofs.Theorems.{below}
+use Rattle.model.proofs.Theorems.{bytes-below}
 
 -- a log is quiet, as a test that computes: each call begins at line 240 or later, ends before the last, and is no data call that is done
 abbrev quietly : List Call → State → Bool
@@ -47,11 +47,11 @@ unfolding start one two totalOf endOf call onLent refusalOf order done readDone 
 pair = record { warm = refl; lengths = lengths 255 _; quiet-a = quiet-log one start refl; quiet-b = quiet-log two start refl; lines-run = refl }
 
 short-held : Held (state zeroUnit short)
-unfolding short bytesOnly isWellFormed recordOf
-short-held = record { formed = refl; unit = refl; left = refl; right = refl; nametables = refl; oam = refl; palette = refl; line = refl }
+unfolding short allBelow isWellFormed recordOf
+short-held = record { formed = refl; unit = refl; left = refl; right = refl; nametables = refl; oam = refl; palette = refl; line = refl; colours = refl }
 
 example : Example places bytes
-unfolding start one two further places bytes reload seven joined trace totalOf endOf call onLent refusalOf order done readDone writeDone lineDone runDone wrotePort wroteControl wroteMask wroteOamaddr wroteScroll wroteAddress wroteMemory wroteVideo wroteOamBytes readUnit readByte readStatus readData stepped statusByte dataByte bufferByte placeOf byteAt cellOf pageAt paletteCell isWellFormed isDrawing isRendering nmiLevel filled short oneLine blankUnit idleLine vblankLine preRenderLine linesRun lineCount nmiCount untilVblank recordOf bytesOnly
+unfolding start one two further places bytes reload seven joined trace totalOf endOf call onLent refusalOf order done readDone writeDone lineDone runDone wrotePort wroteControl wroteMask wroteOamaddr wroteScroll wroteAddress wroteMemory wroteVideo wroteOamBytes readUnit readByte readStatus readData stepped statusByte dataByte bufferByte placeOf byteAt cellOf pageAt paletteCell isWellFormed isDrawing isRendering nmiLevel filled short oneLine blankUnit idleLine vblankLine preRenderLine linesRun lineCount nmiCount untilVblank recordOf allBelow
 example =
     record {
       pair = pair;
@@ -67,5 +67,5 @@ example =
       differ = λ e. eqb-false 255 127 refl (ap (λ (r : List ℕ). getD r 0 0) e);
       equal = demand3 start one two pair places places bytes;
       drawing = refl;
-      record-pair = pair-kept start one two refl (below (recordOf (start .unit)) refl) pair;
+      record-pair = pair-kept start one two refl (bytes-below (recordOf (start .unit)) refl) pair;
     }

@@ -13,14 +13,15 @@ use Rattle.model.specs.declared.Ppu.{Ppu}
 use Rattle.model.specs.declared.Board.{Board}
 use Rattle.model.specs.declared.Place.{Place}
 use Rattle.model.specs.declared.Place.the-variants.{Pattern, Nametable, Palette}
-use Rattle.model.specs.Unit.{Cells, Memory, Lengths, State, state, lineLength, fresh, lastLine, isWellFormed, isDrawing, isRendering, dropsOam}
+use Rattle.model.specs.Unit.{Cells, Memory, Lengths, State, state, lineLength, coloursLength, fresh, lastLine, isWellFormed, isDrawing, isRendering, dropsOam}
 use Rattle.model.specs.Address.{stored, placeOf}
 use Rattle.model.specs.Ports.{wroteUnit, wroteMemory, wroteOamBytes, wroteVideo, dmaOam}
 use Rattle.model.specs.Scroll.{rowDown}
 use Rattle.model.specs.Line.{marked, statusOf, drawnUnit, drawnLine, idleLine, vblankLine, preRenderLine, blankUnit, oneLine, linesRun, lineCount}
 use Rattle.model.specs.Calls.{Lent, own, other, Call, readCall, writeCall, dmaCall, lineCall, runCall, Outcome, outcome, refusal, longFor, lineLong, inRange, blocked, order, refusalOf, readDone, writeDone, dmaDone, lineDone, runDone, done, gate, onLent, lentOf, lentMemory, ownMemory, call}
 use Rattle.model.proofs.Tests.{cond-both, and-l, and-r}
-use Rattle.model.proofs.Line.{picture-long, line-board, lines-board, run-next, run-reports}
+use Rattle.model.proofs.Colours.{coloured-long}
+use Rattle.model.proofs.Line.{picture-long, line-cells, line-board, lines-board, run-next, run-reports}
 use Rattle.model.proofs.Kept.{Good, good, well, Nums, Kept, kept-refl, kept-read, kept-write, kept-dma}
 use Rattle.model.proofs.Scroll.{down-lt, side-lt}
 
@@ -181,9 +182,27 @@ pub record SameCells (m m′ : Cells) : Type 0 where
 pub record SameLengths (m m′ : Memory) : Type 0 where
   pub cells : SameCells (m .cells) (m′ .cells)
   pub line : length (m′ .line) ≡ length (m .line)
+  pub colours : length (m′ .colours) ≡ length (m .colours)
 
 same-cells : (m : Cells) → SameCells m m
 same-cells m = record { left = refl; right = refl; nametables = refl; oam = refl; palette = refl }
+
+pub same-long : (m : Memory) → SameLengths m m
+same-long m = record { cells = same-cells (m .cells); line = refl; colours = refl }
+
+pub same-then : {a b c : Memory} → SameLengths a b → SameLengths b c → SameLengths a c
+same-then h k =
+    record {
+      cells = record {
+        left = k .cells .left ∙ h .cells .left;
+        right = k .cells .right ∙ h .cells .right;
+        nametables = k .cells .nametables ∙ h .cells .nametables;
+        oam = k .cells .oam ∙ h .cells .oam;
+        palette = k .cells .palette ∙ h .cells .palette;
+      };
+      line = k .line ∙ h .line;
+      colours = k .colours ∙ h .colours;
+    }
 
 stored-long : (p : Place) (w : Bool) (b : ℕ) (m : Cells) → SameCells m (stored p w b m)
 unfolding stored
@@ -217,36 +236,38 @@ unfolding dmaOam
 dma-long [] u o = refl
 dma-long (b ∷ bs) u o = dma-long bs (wroteUnit 4 u b) (wroteOamBytes 4 u b o) ∙ oam-long 4 u b o
 
--- a line leaves all but the line buffer as it is
-pub line-cells : (s : State) → oneLine s .memory .cells ≡ s .memory .cells
-unfolding oneLine drawnLine
-line-cells s = cond-both (λ (t : State). t .memory .cells ≡ s .memory .cells) (ltb (s .unit .scanline) 240) (drawnLine s) (state (blankUnit (s .unit)) (s .memory)) refl refl
+-- the line buffers stay as long as they are
+record LineLong (m : Memory) : Type 0 where
+  line : length (m .line) ≡ lineLength
+  colours : length (m .colours) ≡ coloursLength
 
-line-long : (s : State) → length (s .memory .line) ≡ lineLength → length (oneLine s .memory .line) ≡ lineLength
+line-long : (s : State) → LineLong (s .memory) → LineLong (oneLine s .memory)
 unfolding oneLine drawnLine
-line-long s h = cond-both (λ (t : State). length (t .memory .line) ≡ lineLength) (ltb (s .unit .scanline) 240) (drawnLine s) (state (blankUnit (s .unit)) (s .memory)) (picture-long _ _ _ _ _) h
+line-long s h =
+    cond-both (λ (t : State). LineLong (t .memory)) (ltb (s .unit .scanline) 240) (drawnLine s) (state (blankUnit (s .unit)) (s .memory))
+    (record { line = picture-long _ _ _ _ _; colours = coloured-long _ _ _ ∙ picture-long _ _ _ _ _ }) h
 
 pub lines-cells : (k : ℕ) (s : State) → linesRun k s .memory .cells ≡ s .memory .cells
 unfolding linesRun
 lines-cells zero s = refl
 lines-cells (suc k) s = line-cells (linesRun k s) ∙ lines-cells k s
 
-lines-long : (k : ℕ) (s : State) → length (s .memory .line) ≡ lineLength → length (linesRun k s .memory .line) ≡ lineLength
+lines-long : (k : ℕ) (s : State) → LineLong (s .memory) → LineLong (linesRun k s .memory)
 unfolding linesRun
 lines-long zero s h = h
 lines-long (suc k) s h = line-long (linesRun k s) (lines-long k s h)
 
-line-fits : (u : Ppu) (m : Memory) → T (lineLong u m) → length (m .line) ≡ lineLength
-line-fits u m e = eqb→eq _ _ (search (and-l, and-r) depth 9)
+line-fits : (u : Ppu) (m : Memory) → T (lineLong u m) → LineLong m
+line-fits u m e = record { line = eqb→eq _ _ (search (and-l, and-r) depth 9); colours = eqb→eq _ _ (search (and-l, and-r) depth 9) }
 
-drawn-long : {m m′ : Memory} → m′ .cells ≡ m .cells → length (m .line) ≡ lineLength → length (m′ .line) ≡ lineLength → SameLengths m m′
-drawn-long {m} {m′} e h k = record { cells = subst (SameCells (m .cells)) (sym e) (same-cells (m .cells)); line = k ∙ sym h }
+drawn-long : {m m′ : Memory} → m′ .cells ≡ m .cells → LineLong m → LineLong m′ → SameLengths m m′
+drawn-long {m} {m′} e h k = record { cells = subst (SameCells (m .cells)) (sym e) (same-cells (m .cells)); line = k .line ∙ sym (h .line); colours = k .colours ∙ sym (h .colours) }
 
 done-long : (c : Call) (s : State) → longFor c (s .unit) (s .memory) ≡ true → SameLengths (s .memory) (done c s .after .memory)
 unfolding done readDone writeDone dmaDone lineDone runDone
-done-long (readCall l a) s h = record { cells = same-cells (s .memory .cells); line = refl }
-done-long (writeCall l a b) s h = record { cells = wrote-long (a % 8) (s .unit) b (s .memory .cells); line = refl }
-done-long (dmaCall l p) s h = record { cells = record { left = refl; right = refl; nametables = refl; oam = dma-long p (s .unit) (s .memory .cells .oam); palette = refl }; line = refl }
+done-long (readCall l a) s h = same-long (s .memory)
+done-long (writeCall l a b) s h = record { cells = wrote-long (a % 8) (s .unit) b (s .memory .cells); line = refl; colours = refl }
+done-long (dmaCall l p) s h = record { cells = record { left = refl; right = refl; nametables = refl; oam = dma-long p (s .unit) (s .memory .cells .oam); palette = refl }; line = refl; colours = refl }
 done-long (lineCall l) s h =
     let f = line-fits (s .unit) (s .memory) (subst T (sym h) tt) in
     drawn-long (line-cells s) f (line-long s f)
@@ -258,8 +279,7 @@ done-long (runCall l why n) s h =
 -- what a call is lent keeps its lengths
 pub lent-long : (c : Call) (s : State) → SameLengths (s .memory) (onLent c s .after .memory)
 lent-long c s =
-    on-gate (λ (t : State). SameLengths (s .memory) (t .memory)) c s (λ a. done-long c s (a .long))
-    (record { cells = same-cells (s .memory .cells); line = refl })
+    on-gate (λ (t : State). SameLengths (s .memory) (t .memory)) c s (λ a. done-long c s (a .long)) (same-long (s .memory))
 
 pub call-lent-long : (c : Call) (s : State) → SameLengths (lentMemory (lentOf c) (s .memory)) (call c s .lent)
 unfolding call
@@ -268,7 +288,7 @@ call-lent-long c s = lent-long c (state (s .unit) (lentMemory (lentOf c) (s .mem
 -- and so does the unit's own memory
 own-long : (l : Lent) (m o : Memory) → SameLengths (lentMemory l m) o → SameLengths m (ownMemory l m o)
 own-long own m o h = h
-own-long (other x) m o h = record { cells = same-cells (m .cells); line = refl }
+own-long (other x) m o h = same-long m
 
 pub call-long : (c : Call) (s : State) → SameLengths (s .memory) (call c s .after .memory)
 unfolding call
@@ -285,6 +305,7 @@ kept-lengths d m m′ e l =
       };
       oam = e .cells .oam ∙ l .oam;
       line = e .line ∙ l .line;
+      colours = e .colours ∙ l .colours;
     }
 
 pub call-lengths : (c : Call) (s : State) → Lengths (s .unit .board) (s .memory) → Lengths (call c s .after .unit .board) (call c s .after .memory)

@@ -1,5 +1,5 @@
 -- The play of a log: by entries, by parts, and how long what it prints is.
-use mathlib.Core.Path.{_≡_, refl, sym, ap, _∙_}
+use mathlib.Core.Path.{_≡_, refl, sym, ap, _∙_, subst}
 use mathlib.Core.Bool.{Bool, true, false, true≢false, cond, _||_}
 use mathlib.Core.List.{List, [], _∷_, _++_, append-assoc, append-nil}
 use Prim.Native.Nat.{ℕ, _+_, _*_, _%_, _≤_, _<_}
@@ -13,7 +13,7 @@ use Rattle.model.specs.Unit.{Memory, State}
 use Rattle.model.specs.Calls.{own, readCall, writeCall, runCall, Outcome, outcome, refusal, onLent, packed, Exported, exported, exportedCall}
 use Rattle.model.specs.Log.{Record, whole, cut, recordsOf, recordKnown, recordCall, playOne, frontOf, playCall, exportedOne, exportedPlay, recordEntry, entryOf, playEntry, exportedEntry, decimal, readText, runText, refusedText, doneText, kindOf, textOf, entryDone, entryText, ends, playedText, playedState, playEnds}
 use Rattle.model.proofs.Tests.{cond-both}
-use Rattle.model.proofs.Good.{by-gate, good-of, done-sound}
+use Rattle.model.proofs.Good.{by-gate, good-of, done-sound, SameLengths, same-long, same-then, lent-long}
 
 -- AN ENTRY comes to what its record comes to
 known-plays : (x y z : Bool) (a b : ℕ) (s : State)
@@ -79,6 +79,24 @@ run-line n s =
     by-gate (λ (o : Outcome). o .answer .number ≡ 0 → o .after .unit .scanline < 262) (runCall own 0 n) s
     (λ a e. done-sound (runCall own 0 n) s (good-of (s .unit) (a .well)) .good .scanline)
     (λ k e. absurd (omega arith))
+
+-- an entry leaves memory of the same lengths
+pub entry-long : (e : Entry) (s : State) → SameLengths (s .memory) (playEntry e s .after .memory)
+unfolding playEntry
+entry-long (Read a) s = lent-long (readCall own a) s
+entry-long (Write a b) s = lent-long (writeCall own a b) s
+entry-long (Run n) s = lent-long (runCall own 0 n) s
+entry-long Refused s = same-long (s .memory)
+
+-- and so does a log
+record-long : (r : Record) (s : State) → SameLengths (s .memory) (playOne r s .after .memory)
+record-long r s = subst (λ (o : Outcome). SameLengths (s .memory) (o .after .memory)) (entry-plays r s) (entry-long (recordEntry r) s)
+
+pub played-long : (l : List Record) (s : State) → SameLengths (s .memory) (playedState l s .memory)
+unfolding playedState
+played-long [] s = same-long (s .memory)
+played-long (r ∷ l) s =
+    cond-both (λ (t : State). SameLengths (s .memory) (t .memory)) (ends (playOne r s)) _ _ (record-long r s) (same-then (record-long r s) (played-long l (playOne r s .after)))
 
 -- A TEXT is at most 15 bytes
 decimal-short : (n : ℕ) → length (decimal n) ≤ 3

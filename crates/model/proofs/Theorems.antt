@@ -16,14 +16,15 @@ use Rattle.model.specs.Unit.{Memory, State, state, recordLength, isWellF
 use Rattle.model.specs.Record.{at, unitOf, recordOf}
 use Rattle.model.specs.Ports.{portOf}
 use Rattle.model.specs.Calls.{access, refusedAccess, loadCall, made, Saved, saveCall, refusal, Call, Outcome, outcome, outcomeOn, longFor, order, inRange, blocked, refusalOf, done, gate, onLent, lentOf, lentMemory, call, packed, exported, onRecord, exportedCall}
-use Rattle.model.specs.Reload.{end, endOf, total, totalOf, trace, Places, Bytes, seven, joined, reload, step, without, Within, bytesOnly, Held, Needed, Alike}
+use Rattle.model.specs.Reload.{end, endOf, total, totalOf, trace, Places, Bytes, seven, joined, reload, step, without, Within, allBelow, bytesOnly, Held, Needed, Alike}
 use Rattle.model.specs.RecordLog.{RecordState, recordState, recordCall, recordTrace, recordSystem, RecordNeeded, RecordAlike}
 use Rattle.model.specs.Log.{Record, whole, cut, recordsOf, recordKnown, recordCall as recordsCall, playOne, frontOf, playCall, exportedOne, exportedPlay}
-use Rattle.model.specs.Theorems.{AreBytes, Refusals, RoundTrips, Frames, Lending, Traces, DataCalls, HeldBytes, Arguments, ReloadTheorem, Mirrors, Steps, PlayedRecords, Theorems}
+use Rattle.model.specs.Theorems.{AreBelow, AreBytes, Refusals, RoundTrips, Frames, Lending, Traces, DataCalls, HeldBytes, Arguments, ReloadTheorem, Mirrors, Steps, PlayedRecords, Theorems}
 use Rattle.model.proofs.Tests.{and-both}
 use Rattle.model.proofs.Accepted.{is-refused, is-unmade, and-none}
 use Rattle.model.proofs.Record.{unit-record-unit, load-save, save-is, save-load}
 use Rattle.model.proofs.Calls.{frame, exported-frame}
+use Rattle.model.proofs.Colours.{colours, coloured-lines, colour-bytes}
 use Rattle.model.proofs.Kept.{done-num}
 use Rattle.model.proofs.Good.{call-good}
 use Rattle.model.proofs.Reloaded.{idle, demand3}
@@ -174,23 +175,26 @@ data-calls =
     }
 
 -- BYTES
-pub below : (l : List ℕ) → bytesOnly l ≡ true → AreBytes l
-unfolding bytesOnly
-below [] e k = lit< tt
-below (b ∷ bs) e zero = ltb-true b 256 (and-both (ltb b 256) (bytesOnly bs) e .0)
-below (b ∷ bs) e (suc k) = below bs (and-both (ltb b 256) (bytesOnly bs) e .1) k
+below : (n : ℕ) → 0 < n → (l : List ℕ) → allBelow n l ≡ true → AreBelow n l
+unfolding allBelow
+below n z [] e k = z
+below n z (b ∷ bs) e zero = ltb-true b n (and-both (ltb b n) (allBelow n bs) e .0)
+below n z (b ∷ bs) e (suc k) = below n z bs (and-both (ltb b n) (allBelow n bs) e .1) k
 
-all-bytes : (l : List ℕ) → AreBytes l → bytesOnly l ≡ true
-unfolding bytesOnly
-all-bytes [] h = refl
-all-bytes (b ∷ bs) h = λ i. lt-ltb b 256 (h 0) i && all-bytes bs (λ k. h (suc k)) i
+pub bytes-below : (l : List ℕ) → bytesOnly l ≡ true → AreBytes l
+bytes-below = below 256 (lit< tt)
+
+all-below : (n : ℕ) (l : List ℕ) → AreBelow n l → allBelow n l ≡ true
+unfolding allBelow
+all-below n [] h = refl
+all-below n (b ∷ bs) h = λ i. lt-ltb b n (h 0) i && all-below n bs (λ k. h (suc k)) i
 
 held-bytes : HeldBytes
 held-bytes =
     record {
       below = below;
-      all-below = all-bytes;
-      held = λ s h. (below _ (h .unit), below _ (h .left), below _ (h .right), below _ (h .nametables), below _ (h .oam), below _ (h .palette), below _ (h .line));
+      all-below = all-below;
+      held = λ s h. (bytes-below _ (h .unit), bytes-below _ (h .left), bytes-below _ (h .right), bytes-below _ (h .nametables), bytes-below _ (h .oam), bytes-below _ (h .palette), bytes-below _ (h .line), below 65536 (lit< tt) _ (h .colours));
       formed = λ s h. h .formed;
     }
 
@@ -199,7 +203,7 @@ arguments =
     record {
       fits-read = λ l a f. f;
       fits-write = λ l a b f. f;
-      fits-dma = λ l p f. (f .0, below p (f .1));
+      fits-dma = λ l p f. (f .0, bytes-below p (f .1));
       fits-line = λ l f. f;
       fits-run = λ l why n f. f;
       fits-lent = λ m f. f;
@@ -233,7 +237,7 @@ record-needed k l =
       start = kept (n .start);
       log-a = n .log-a;
       log-b = n .log-b;
-      pair = pair-kept (n .start) (n .log-a) (n .log-b) h (below _ (n .held .unit)) (n .pair);
+      pair = pair-kept (n .start) (n .log-a) (n .log-b) h (bytes-below _ (n .held .unit)) (n .pair);
       held = subst (λ (u : Ppu). Held (state u (n .start .memory))) (sym (unit-record-unit (n .start .unit))) (n .held);
       taken = ap (λ a. a .answer .number) (load-save (n .start .unit) h);
       fit-a = n .fit-a;
@@ -337,6 +341,9 @@ theorems =
       mirrors = mirrors;
       steps = steps;
       played-records = played-records;
+      colours = colours;
+      coloured-lines = coloured-lines;
+      colour-bytes = colour-bytes;
       quarter-pages = quarter-pages;
       rows = rows;
       pages = pages;

@@ -2,7 +2,7 @@
 use mathlib.Core.Path.{_≡_}
 use mathlib.Core.Bool.{true}
 use mathlib.Core.List.{List, [], _∷_, map}
-use Prim.Native.Nat.{ℕ}
+use Prim.Native.Nat.{ℕ, _*_}
 use lib.ListN.{replicate}
 use Rattle.model.specs.declared.Board.{Board}
 use Rattle.model.specs.declared.Wiring.the-variants.{SecondPage}
@@ -12,17 +12,18 @@ use Rattle.model.specs.Calls.{own, other, Call, readCall, writeCall, dma
 use Rattle.model.specs.Reload.{end, total, trace, dataCall, Places, Bytes, reload, Pair, Alike, Held, AllFit}
 use Rattle.model.specs.RecordLog.{RecordState, recordState, recordSystem, RecordPair, RecordAlike}
 
--- all memory filled with a byte
+-- all memory filled with a byte, the finished colours with two of it
 unfoldable pub filled : ℕ → Memory
 filled b =
     record {
       cells = accessCells (replicate 4096 b) (replicate 4096 b) (replicate 2048 b) (replicate 256 b) (replicate 32 b);
       line = replicate 256 b;
+      colours = replicate 256 (b * 257);
     }
 
 -- memory of wrong lengths
 unfoldable pub short : Memory
-short = record { cells = accessCells [] [] [] [] []; line = [] }
+short = record { cells = accessCells [] [] [] [] []; line = []; colours = [] }
 
 -- next line 240, warmed up, NMI off; all else as large as a unit can hold
 unfoldable pub start : State

@@ -1,27 +1,32 @@
 -- What is proved of the definitions: the statements. proofs/Theorems.antt has the proof of each.
 use mathlib.Core.Path.{_≡_}
 use mathlib.Core.Bool.{true, false}
-use mathlib.Core.List.{List, [], _∷_, _++_}
+use mathlib.Core.List.{List, [], _∷_, _++_, map}
 use mathlib.Core.Logic.{_⊎_}
-use Prim.Native.Nat.{ℕ, _+_, _*_, _%_, _≤_, _<_}
+use Prim.Native.Nat.{ℕ, _+_, _*_, _/_, _%_, _≤_, _<_}
 use lib.ListN.{length}
 use Rattle.model.specs.declared.Board.{Board}
 use Rattle.model.specs.declared.Ppu.{Ppu}
-use Rattle.model.specs.Unit.{nametableLength, Memory, withCells, withLine, accessMemory, dmaMemory, lineMemory, State, state, zeroUnit, recordLength, isWellFormed, isDrawing}
+use Rattle.model.specs.Unit.{nametableLength, lineLength, coloursLength, Cells, Memory, withCells, withLines, accessMemory, dmaMemory, State, state, zeroUnit, recordLength, bit, isWellFormed, isRendering, isDrawing}
 use Rattle.model.specs.Record.{at, recordOf}
-use Rattle.model.specs.Address.{nametableByte, withOam, withPalette, quarterPart}
-use Rattle.model.specs.Ports.{portOf}
+use Rattle.model.specs.Address.{paletteCell, nametableByte, withOam, quarterPart}
+use Rattle.model.specs.Ports.{portOf, dataByte}
+use Rattle.model.specs.Colours.{shownCell, colourAt, numbersOf}
+use Rattle.model.specs.Line.{oneLine}
 use Rattle.model.specs.Calls.{made, loadCall, saved, saveCall, refusal, Lent, own, other, Call, readCall, writeCall, dmaCall, lineCall, runCall, Outcome, outcome, longFor, inRange, blocked, refusalOf, done, onLent, lentOf, given, call, packed, Exported, exported, onRecord, exportedCall}
-use Rattle.model.specs.Reload.{end, total, trace, dataCall, At, Places, Bytes, seven, joined, reload, step, without, Pair, Alike, Within, bytesOnly, Held, LentFits, Fits, AllFit, Needed, endOf}
+use Rattle.model.specs.Reload.{end, total, trace, dataCall, At, Places, Bytes, seven, joined, reload, step, without, Pair, Alike, Within, allBelow, bytesOnly, Held, LentFits, Fits, AllFit, Needed, endOf}
 use Rattle.model.specs.RecordLog.{RecordState, recordState, recordGiven, recordCall, recordTrace, recordSystem, RecordPair, RecordNeeded, RecordAlike}
 use Rattle.model.specs.Log.{recordKnown, recordCall as recordsCall, playCall, exportedPlay}
 use Rattle.model.specs.Scroll.{nametable, row, column}
 use Rattle.model.specs.Background.{tileAt}
 use Rattle.model.specs.Text.{nametablePage, tableLength, rowsLength, characterOf, rowsOf, bareCount, pageOf, textAnswer, written, textCall, pageCall, writtenForC, exportedText}
 
--- every number of a list is a byte
+-- every number of a list is below n; is a byte
+abbrev pub AreBelow : ℕ → List ℕ → Type 0
+AreBelow n l = (k : ℕ) → at l k < n
+
 abbrev pub AreBytes : List ℕ → Type 0
-AreBytes l = (k : ℕ) → at l k < 256
+AreBytes l = AreBelow 256 l
 
 -- DEMAND 1. The number of a call is the first of 2, 3, 1, 4 that holds, and 0 if none does; a refused call changes nothing, and its packed
 -- answer is its number
@@ -45,21 +50,21 @@ pub record RoundTrips : Type 0 where
   pub stays-formed : (c : Call) (s : State) → isWellFormed (s .unit) ≡ true → isWellFormed (call c s .after .unit) ≡ true
 
 -- WHAT IS NOT LENT to a call is neither read nor touched.
--- What a call is lent of m, the rest empty: an access all but the line buffer, sprite DMA only OAM, a line or a run all but the palette
+-- What a call is lent of m, the rest empty: an access all but the line buffers, sprite DMA only OAM, a line or a run all
 abbrev pub lentTo : Call → Memory → Memory
 lentTo (readCall l a) m = accessMemory (m .cells .left) (m .cells .right) (m .cells .nametables) (m .cells .oam) (m .cells .palette)
 lentTo (writeCall l a b) m = accessMemory (m .cells .left) (m .cells .right) (m .cells .nametables) (m .cells .oam) (m .cells .palette)
 lentTo (dmaCall l p) m = dmaMemory (m .cells .oam)
-lentTo (lineCall l) m = lineMemory (m .cells .left) (m .cells .right) (m .cells .nametables) (m .cells .oam) (m .line)
-lentTo (runCall l why n) m = lineMemory (m .cells .left) (m .cells .right) (m .cells .nametables) (m .cells .oam) (m .line)
+lentTo (lineCall l) m = m
+lentTo (runCall l why n) m = m
 
 -- o, with what was not lent put back from m
 abbrev pub restored : Call → Memory → Memory → Memory
-restored (readCall l a) m o = withLine o (m .line)
-restored (writeCall l a b) m o = withLine o (m .line)
+restored (readCall l a) m o = withLines o (m .line) (m .colours)
+restored (writeCall l a b) m o = withLines o (m .line) (m .colours)
 restored (dmaCall l p) m o = withCells m (withOam (m .cells) (o .cells .oam))
-restored (lineCall l) m o = withCells o (withPalette (o .cells) (m .cells .palette))
-restored (runCall l why n) m o = withCells o (withPalette (o .cells) (m .cells .palette))
+restored (lineCall l) m o = o
+restored (runCall l why n) m o = o
 
 abbrev pub restores : Call → Memory → Outcome → Outcome
 restores c m o = outcome (o .answer) (state (o .after .unit) (restored c m (o .after .memory)))
@@ -100,12 +105,13 @@ pub record DataCalls : Type 0 where
   pub no-data-write : (l : Lent) (a b : ℕ) → (portOf a ≡ 4 → ⊥) → (portOf a ≡ 7 → ⊥) → dataCall (writeCall l a b) ≡ false
   pub no-data : (l : Lent) (a why n : ℕ) → (dataCall (readCall l a) ≡ false) × (dataCall (lineCall l) ≡ false) × (dataCall (runCall l why n) ≡ false)
 
--- bytes are below 256, in a unit's record and in every memory
+-- bytes are below 256, in a unit's record and in every memory, and finished colours are numbers of two bytes
 pub record HeldBytes : Type 0 where
-  pub below : (l : List ℕ) → bytesOnly l ≡ true → AreBytes l
-  pub all-below : (l : List ℕ) → AreBytes l → bytesOnly l ≡ true
+  pub below : (n : ℕ) → 0 < n → (l : List ℕ) → allBelow n l ≡ true → AreBelow n l
+  pub all-below : (n : ℕ) (l : List ℕ) → AreBelow n l → allBelow n l ≡ true
   pub held : (s : State) → Held s → AreBytes (recordOf (s .unit)) × AreBytes (s .memory .cells .left) × AreBytes (s .memory .cells .right)
       × AreBytes (s .memory .cells .nametables) × AreBytes (s .memory .cells .oam) × AreBytes (s .memory .cells .palette) × AreBytes (s .memory .line)
+      × AreBelow 65536 (s .memory .colours)
   pub formed : (s : State) → Held s → isWellFormed (s .unit) ≡ true
 
 -- what fits a call: words of 16 bits, bytes, and memory of bytes
@@ -160,6 +166,37 @@ pub record PlayedRecords : Type 0 where
   pub exported-play : (log : List ℕ) (u : Ppu) (m : Memory) → isWellFormed u ≡ true
       → exportedPlay log (recordOf u) m ≡ (let o : Outcome = playCall log (state u m) in exported (packed (o .answer)) (recordOf (o .after .unit)) (o .after .memory))
   pub runs-on : (h l : ℕ) → recordsCall 2 (h * 256 + l) 0 ≡ runCall own 0 (h * 256 + l)
+
+-- DOCUMENT 02, REQUEST 1. The colour of a pixel number: its upper bits are mask bits 7-5, its lower six the palette byte of the cell shown, with
+-- $30 if mask bit 0. The cell is that of the pixel number; with mask bits 3 and 4 clear and v from $3F00 the one at v, as a read of port 7 gives it
+pub record Colours (u : Ppu) (p : List ℕ) (n : ℕ) : Type 0 where
+  pub colour-small : colourAt u p n < 512
+  pub colour-emphasis : colourAt u p n / 64 ≡ u .mask / 32 % 8
+  pub colour-plain : bit 1 (u .mask) ≡ false → colourAt u p n % 64 ≡ at p (shownCell u n) % 64
+  pub colour-grey : bit 1 (u .mask) ≡ true → colourAt u p n % 64 ≡ at p (shownCell u n) % 64 / 16 * 16
+  pub cell-drawn : isRendering u ≡ true → shownCell u n ≡ n
+  pub cell-off : u .v % 16384 < 16128 → shownCell u n ≡ n
+  pub cell-override : isRendering u ≡ false → 16128 ≤ u .v % 16384 → shownCell u n ≡ paletteCell (u .v % 16384)
+  pub override-read : isRendering u ≡ false → 16128 ≤ u .v % 16384 → (m : Cells) → m .palette ≡ p → colourAt u p n % 64 ≡ dataByte u m % 64
+
+-- the colours of a line are those of its pixel numbers, of which none is a mirror of a cell (16, 20, 24, 28); of a line that is off, 256 times that
+-- of number 0; lines 240 to 261 touch neither buffer, and no line touches what else is lent
+pub record ColouredLines (s : State) : Type 0 where
+  pub line-colours : s .unit .scanline < 240 → oneLine s .memory .colours ≡ map (colourAt (s .unit) (s .memory .cells .palette)) (oneLine s .memory .line)
+  pub line-cell : s .unit .scanline < 240 → (k : ℕ) → k < lineLength → paletteCell (at (oneLine s .memory .line) k) ≡ at (oneLine s .memory .line) k
+  pub line-long : s .unit .scanline < 240 → length (oneLine s .memory .colours) ≡ coloursLength
+  pub line-off : s .unit .scanline < 240 → isRendering (s .unit) ≡ false → (k : ℕ) → k < lineLength
+      → (at (oneLine s .memory .line) k ≡ 0) × (at (oneLine s .memory .colours) k ≡ colourAt (s .unit) (s .memory .cells .palette) 0)
+  pub line-blank : 240 ≤ s .unit .scanline → oneLine s .memory ≡ s .memory
+  pub line-lent : oneLine s .memory .cells ≡ s .memory .cells
+
+-- for C the colours are 512 bytes, number k at 2 k and 2 k + 1, low byte first; no other count of bytes is 256 numbers, and bytes that are
+-- the same numbers are the same bytes
+pub record ColourBytes (l : List ℕ) : Type 0 where
+  pub low-first : length l ≡ 2 * coloursLength → (k : ℕ) → k < coloursLength → at (numbersOf l) k ≡ at l (2 * k) + at l (2 * k + 1) * 256
+  pub numbers-long : length l ≡ 2 * coloursLength → length (numbersOf l) ≡ coloursLength
+  pub bytes-long : length (numbersOf l) ≡ coloursLength → length l ≡ 2 * coloursLength
+  pub bytes-same : (l′ : List ℕ) → length l ≡ length l′ → AreBytes l → AreBytes l′ → numbersOf l ≡ numbersOf l′ → l ≡ l′
 
 -- DOCUMENT 02, REQUEST 10. The page of a quarter: byte k of it is the one that answers at $2000 + 1024 q + k, with q modulo 4
 pub record QuarterPages (d : Board) (n : List ℕ) (q : ℕ) : Type 0 where
@@ -222,6 +259,9 @@ pub record Theorems : Type 0 where
   pub mirrors : Mirrors
   pub steps : (a : Places) (b : Bytes) → Steps a b
   pub played-records : PlayedRecords
+  pub colours : (u : Ppu) (p : List ℕ) (n : ℕ) → Colours u p n
+  pub coloured-lines : (s : State) → ColouredLines s
+  pub colour-bytes : (l : List ℕ) → ColourBytes l
   pub quarter-pages : (d : Board) (n : List ℕ) (q : ℕ) → QuarterPages d n q
   pub rows : (p t r : List ℕ) → Rows p t r
   pub pages : (r t p : List ℕ) → Pages r t p

@@ -1,6 +1,6 @@
 -- The ways of each function: what a definition is under the tests that a way has passed, and what a turn's parts make of it.
 use Prim.Native.Nat.{ℕ, _+_, _-_, _<_, _≤_}
-use mathlib.Core.Path.{_≡_, refl}
+use mathlib.Core.Path.{_≡_, refl, sym, _∙_, subst}
 use mathlib.Core.List.{List, _++_}
 use mathlib.Core.Bool.{Bool, true, false, false≢true, cond}
 use native.Mathlib.Omega.{arith}
@@ -11,6 +11,8 @@ use Rattle.model.specs.declared.Ppu.{Ppu}
 use Rattle.model.specs.Unit.{Memory, State, state}
 use Rattle.log.specs.declared.Played.{Played}
 use Rattle.log.specs.Play.{IsPlay, wholeBytes}
+use Rattle.model.proofs.Good.{SameLengths, same-long, same-then}
+use Rattle.model.proofs.Log.{played-long}
 use Rattle.log.proofs.Playing.{kept-short}
 use Rattle.player.specs.declared.Progress.{Progress}
 use Rattle.player.specs.Turns.{goesOn, turnsAfter, IsBlockTurn, IsTurn, Turns, none, next, mostTurns, IsInput}
@@ -59,9 +61,9 @@ module _ (kept more : ℕ) (block block′ out out′ : List ℕ) (s : State) (x
         going = h;
       })
 
-module _ (kept more : ℕ) (block filled block′ out out′ : List ℕ) (s : State) (x : Progress) (m : Memory) where
-  pub turn-done : kept + more ≤ length block → length filled ≡ length block → take kept filled ≡ take kept block
-      → IsBlockTurn kept more filled s out x m out′ block′ → IsTurn kept block s out x m out′ block′
+module _ (p : Progress) (more : ℕ) (block filled block′ out out′ : List ℕ) (m : Memory) (x : Progress) (m′ : Memory) where
+  pub turn-done : p .kept + more ≤ length block → length filled ≡ length block → take (p .kept) filled ≡ take (p .kept) block
+      → IsBlockTurn (p .kept) more filled (state (p .unit) m) out x m′ out′ block′ → IsTurn p block m out x m′ out′ block′
   turn-done h l b t = record {
     more = more;
     filled = filled;
@@ -70,15 +72,21 @@ module _ (kept more : ℕ) (block filled block′ out out′ : List ℕ) (s : St
     turn = t;
   }
 
+-- a turn leaves memory of the same lengths
+turn-long : (p : Progress) (block : List ℕ) (m : Memory) (out : List ℕ) (x : Progress) (m′ : Memory) (out′ block′ : List ℕ) → IsTurn p block m out x m′ out′ block′ → SameLengths m m′
+turn-long p block m out x m′ out′ block′ t =
+    subst (λ (s : State). SameLengths m (s .memory)) (sym (t .turn .plays .after)) (played-long _ (state (p .unit) m))
+
 -- the loop: the turns so far, and those that are left
-pub record Playing (u : Ppu) (m : Memory) (out block : List ℕ) (n : Ppu) (kept left : ℕ) (m′ : Memory) (out′ block′ : List ℕ) : Type 0 where
+pub record Playing (u : Ppu) (m : Memory) (out block : List ℕ) (p : Progress) (left : ℕ) (m′ : Memory) (out′ block′ : List ℕ) : Type 0 where
   pub count : ℕ
-  pub last : Progress
-  pub turns : Turns u m out block count last m′ out′ block′
+  pub turns : Turns u m out block count p m′ out′ block′
   pub room : count ≤ mostTurns
-  pub after : n ≡ last .unit
-  pub cut : kept ≡ last .kept
-  pub rest : left ≡ cond (last .going) (mostTurns - count) 0
+  pub rest : left ≡ cond (p .going) (mostTurns - count) 0
+  pub short : p .kept < 4
+  pub block-long : length block′ ≡ length block
+  pub out-long : length out′ ≡ length out
+  pub lengths : SameLengths m m′
 
 went : (g : Bool) (a t : ℕ) → t ≡ cond g a 0 → 0 < t → (g ≡ true) × (t ≡ a)
 went true a t e p = (refl, e)
@@ -94,24 +102,26 @@ used-up true k t h e p q = omega (arith, h, e, p)
 used-up false k t h e p q = absurd (false≢true q)
 
 module _ (u : Ppu) (m : Memory) (out block : List ℕ) where
-  pub input-start : Playing u m out block u 0 mostTurns m out block
-  input-start = record { count = 0; last = record { unit = u; kept = 0; going = true }; turns = none; room = omega arith; after = refl; cut = refl; rest = refl }
+  pub input-start : (p : Progress) → p ≡ record { unit = u; kept = 0; going = true } → Playing u m out block p mostTurns m out block
+  input-start p e = rw e (record { count = 0; turns = none; room = omega arith; rest = refl; short = omega arith; block-long = refl; out-long = refl; lengths = same-long m })
 
-  module _ (n : Ppu) (kept left : ℕ) (m′ : Memory) (out′ block′ : List ℕ) (y : Playing u m out block n kept left m′ out′ block′) where
-    pub input-next : (x : Progress) (left′ : ℕ) (m″ : Memory) (out″ block″ : List ℕ) → 0 < left → IsTurn kept block′ (state n m′) out′ x m″ out″ block″
-        → left′ ≡ turnsAfter left (x .going) → Playing u m out block (x .unit) (x .kept) left′ m″ out″ block″
-    input-next x left′ m″ out″ block″ p t e =
-        let w : (y .last .going ≡ true) × (left ≡ mostTurns - y .count) = went _ _ _ (y .rest) p in
-        let t′ : IsTurn (y .last .kept) block′ (state (y .last .unit) m′) out′ x m″ out″ block″ = rw (← (y .after), ← (y .cut)) t in
+  module _ (p : Progress) (left : ℕ) (m′ : Memory) (out′ block′ : List ℕ) (y : Playing u m out block p left m′ out′ block′) where
+    pub input-next : (x : Progress) (left′ : ℕ) (m″ : Memory) (out″ block″ : List ℕ) → 0 < left → IsTurn p block′ m′ out′ x m″ out″ block″
+        → left′ ≡ turnsAfter left (x .going) → length block″ ≡ length block′ → length out″ ≡ length out′ → Playing u m out block x left′ m″ out″ block″
+    input-next x left′ m″ out″ block″ h t e b o =
+        let w : (p .going ≡ true) × (left ≡ mostTurns - y .count) = went _ _ _ (y .rest) h in
         record {
           count = y .count + 1;
-          last = x;
-          turns = next _ _ _ _ _ _ _ _ _ (y .turns) (w .0) t′;
-          room = omega (arith, w .1, p);
-          after = refl;
-          cut = refl;
+          turns = next _ _ _ _ _ _ _ _ _ (y .turns) (w .0) t;
+          room = omega (arith, w .1, h);
           rest = rest-after (x .going) (y .count) left left′ (w .1) e;
+          short = t .turn .short;
+          block-long = b ∙ y .block-long;
+          out-long = o ∙ y .out-long;
+          lengths = same-then (y .lengths) (turn-long p block′ m′ out′ x m″ out″ block″ t);
         }
 
     pub input-over : left ≤ 0 → IsInput u m out block m′ out′ block′
-    input-over p = record { count = y .count; last = y .last; turns = y .turns; over = used-up (y .last .going) (y .count) left (y .room) (y .rest) p }
+    input-over h = record { count = y .count; last = p; turns = y .turns; over = used-up (p .going) (y .count) left (y .room) (y .rest) h }
+
+pub ruleset input-cases = (input-start, input-next, input-over)

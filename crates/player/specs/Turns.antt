@@ -42,24 +42,24 @@ pub record IsBlockTurn (kept more : ℕ) (block : List ℕ) (s : State) (out : L
   -- an ended play does not go on
   pub going : x .going ≡ goesOn more isWritten (played .ended)
 
--- the same with the read before it: no contract says what that brings
-pub record IsTurn (kept : ℕ) (block : List ℕ) (s : State) (out : List ℕ) (x : Progress) (m : Memory) (out′ block′ : List ℕ) : Type 0 where
+-- the same from progress p, with the read before it: no contract says what that brings
+pub record IsTurn (p : Progress) (block : List ℕ) (m : Memory) (out : List ℕ) (x : Progress) (m′ : Memory) (out′ block′ : List ℕ) : Type 0 where
   -- how many bytes were read, 0 at the end of the input
   pub more : ℕ
   -- the block after the read
   pub filled : List ℕ
   -- which has room for them
-  pub fits : kept + more ≤ length filled
+  pub fits : p .kept + more ≤ length filled
   -- and still has what was kept
-  pub behind : take kept filled ≡ take kept block
+  pub behind : take (p .kept) filled ≡ take (p .kept) block
   -- the play of it
-  pub turn : IsBlockTurn kept more filled s out x m out′ block′
+  pub turn : IsBlockTurn (p .kept) more filled (state (p .unit) m) out x m′ out′ block′
 
 -- turns one after the other, each from what the one before it left, and only if that one goes on: how many, the last one's progress, what is left
 pub data Turns (u : Ppu) (m : Memory) (out block : List ℕ) : ℕ → Progress → Memory → List ℕ → List ℕ → Type 0 where
   none : Turns u m out block 0 (record { unit = u; kept = 0; going = true }) m out block
   next : (n : ℕ) (x y : Progress) (m₁ m₂ : Memory) (out₁ out₂ block₁ block₂ : List ℕ) → Turns u m out block n x m₁ out₁ block₁ → x .going ≡ true
-      → IsTurn (x .kept) block₁ (state (x .unit) m₁) out₁ y m₂ out₂ block₂ → Turns u m out block (n + 1) y m₂ out₂ block₂
+      → IsTurn x block₁ m₁ out₁ y m₂ out₂ block₂ → Turns u m out block (n + 1) y m₂ out₂ block₂
 
 -- a number of turns that no run uses up
 abbrev pub mostTurns : ℕ

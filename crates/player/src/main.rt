@@ -4,7 +4,7 @@
 ghost use mathlib.Core.Path.{_≡_};
 ghost use Prim.Native.Nat.{_+_, _<_, _≤_};
 ghost use lib.ListN.{length, take};
-ghost use Rattle.model.specs.Unit.{state, playMemory};
+ghost use Rattle.model.specs.Unit.{state, lineMemory};
 ghost use Rattle.model.specs.Log.{startState};
 ghost use Rattle.player.specs.Turns.{goesOn, turnsAfter, IsBlockTurn, IsTurn, IsInput};
 use model::Ppu;
@@ -51,10 +51,11 @@ fn play_read(
     oam: &mut [u8],
     palette: &mut [u8],
     line: &mut [u8],
+    colours: &mut [u16],
 ) -> Progress
     requires { ⌜ (kept + more ≤ length (now block)) × (length (now block) ≡ 16384) × (length (now out) ≡ 65536) ⌝ }
-    ensures { λ r. ⌜ IsBlockTurn kept more (now (block .entry)) (state u (playMemory (now (left .entry)) (now (right .entry)) (now (nametables .entry)) (now (oam .entry)) (now (palette .entry)) (now (line .entry))))
-        (now (out .entry)) r (playMemory (now (left .exit)) (now (right .exit)) (now (nametables .exit)) (now (oam .exit)) (now (palette .exit)) (now (line .exit))) (now (out .exit)) (now (block .exit)) ⌝ }
+    ensures { λ r. ⌜ IsBlockTurn kept more (now (block .entry)) (state u (lineMemory (now (left .entry)) (now (right .entry)) (now (nametables .entry)) (now (oam .entry)) (now (palette .entry)) (now (line .entry)) (now (colours .entry))))
+        (now (out .entry)) r (lineMemory (now (left .exit)) (now (right .exit)) (now (nametables .exit)) (now (oam .exit)) (now (palette .exit)) (now (line .exit)) (now (colours .exit))) (now (out .exit)) (now (block .exit)) ⌝ }
 {
     let b = log::play_block(
         u,
@@ -68,6 +69,7 @@ fn play_read(
         oam,
         palette,
         line,
+        colours,
     );
     let played = b.played;
     let written = played.written;
@@ -80,8 +82,7 @@ fn play_read(
 
 // Reads, plays what is there and writes what that prints.
 fn turn(
-    u: Ppu,
-    kept: usize,
+    p: Progress,
     block: &mut [u8],
     out: &mut [u8],
     left: &mut [u8],
@@ -90,11 +91,14 @@ fn turn(
     oam: &mut [u8],
     palette: &mut [u8],
     line: &mut [u8],
+    colours: &mut [u16],
 ) -> Progress
-    requires { ⌜ (kept < 4) × (length (now block) ≡ 16384) × (length (now out) ≡ 65536) ⌝ }
-    ensures { λ r. ⌜ IsTurn kept (now (block .entry)) (state u (playMemory (now (left .entry)) (now (right .entry)) (now (nametables .entry)) (now (oam .entry)) (now (palette .entry)) (now (line .entry))))
-        (now (out .entry)) r (playMemory (now (left .exit)) (now (right .exit)) (now (nametables .exit)) (now (oam .exit)) (now (palette .exit)) (now (line .exit))) (now (out .exit)) (now (block .exit)) ⌝ }
+    requires { ⌜ (p .kept < 4) × (length (now block) ≡ 16384) × (length (now out) ≡ 65536) ⌝ }
+    ensures { λ r. ⌜ IsTurn p (now (block .entry)) (lineMemory (now (left .entry)) (now (right .entry)) (now (nametables .entry)) (now (oam .entry)) (now (palette .entry)) (now (line .entry)) (now (colours .entry)))
+        (now (out .entry)) r (lineMemory (now (left .exit)) (now (right .exit)) (now (nametables .exit)) (now (oam .exit)) (now (palette .exit)) (now (line .exit)) (now (colours .exit))) (now (out .exit)) (now (block .exit)) ⌝ }
 {
+    let u = p.unit;
+    let kept = p.kept;
     let more = read_more(block, kept);
     play_read(
         u,
@@ -108,6 +112,7 @@ fn turn(
         oam,
         palette,
         line,
+        colours,
     )
 }
 
@@ -134,18 +139,21 @@ fn play_input(
     oam: &mut [u8],
     palette: &mut [u8],
     line: &mut [u8],
+    colours: &mut [u16],
 )
-    requires { ⌜ (state u (playMemory (now left) (now right) (now nametables) (now oam) (now palette) (now line)) ≡ startState) × (length (now block) ≡ 16384) × (length (now out) ≡ 65536) ⌝ }
-    ensures { λ _. ⌜ IsInput u (playMemory (now (left .entry)) (now (right .entry)) (now (nametables .entry)) (now (oam .entry)) (now (palette .entry)) (now (line .entry))) (now (out .entry)) (now (block .entry))
-        (playMemory (now (left .exit)) (now (right .exit)) (now (nametables .exit)) (now (oam .exit)) (now (palette .exit)) (now (line .exit))) (now (out .exit)) (now (block .exit)) ⌝ }
+    requires { ⌜ (state u (lineMemory (now left) (now right) (now nametables) (now oam) (now palette) (now line) (now colours)) ≡ startState) × (length (now block) ≡ 16384) × (length (now out) ≡ 65536) ⌝ }
+    ensures { λ _. ⌜ IsInput u (lineMemory (now (left .entry)) (now (right .entry)) (now (nametables .entry)) (now (oam .entry)) (now (palette .entry)) (now (line .entry)) (now (colours .entry))) (now (out .entry)) (now (block .entry))
+        (lineMemory (now (left .exit)) (now (right .exit)) (now (nametables .exit)) (now (oam .exit)) (now (palette .exit)) (now (line .exit)) (now (colours .exit))) (now (out .exit)) (now (block .exit)) ⌝ }
 {
-    let mut n = u;
-    let mut kept = 0;
+    let mut p = Progress {
+        unit: u,
+        kept: 0,
+        going: true,
+    };
     let mut turns = u64::MAX;
     while turns > 0 {
-        let t = turn(
-            n,
-            kept,
+        p = turn(
+            p,
             block,
             out,
             left,
@@ -154,11 +162,9 @@ fn play_input(
             oam,
             palette,
             line,
+            colours,
         );
-        let after = t.unit;
-        n = after;
-        kept = t.kept;
-        turns = turns_left(turns, t.going);
+        turns = turns_left(turns, p.going);
     }
 }
 
@@ -171,6 +177,7 @@ fn main() {
     let mut oam = [0u8; 256];
     let mut palette = [0u8; 32];
     let mut line = [0u8; 256];
+    let mut colours = [0u16; 256];
     let a = accesses::fresh(9);
     let u = a.unit;
     play_input(
@@ -183,5 +190,6 @@ fn main() {
         &mut oam,
         &mut palette,
         &mut line,
+        &mut colours,
     );
 }

@@ -11,17 +11,17 @@ use Rattle.model.specs.declared.Board.{Board}
 use Rattle.model.specs.declared.Ppu.{Ppu}
 use Rattle.model.specs.declared.Answer.{Answer}
 use Rattle.model.specs.declared.Access.{Access}
-use Rattle.model.specs.Unit.{patternLength, nametableLength, oamLength, fresh, zeroUnit, isWellFormed, isDrawing}
+use Rattle.model.specs.Unit.{fresh, zeroUnit, isWellFormed, isDrawing}
 use Rattle.model.specs.Record.{unitOf, recordOf, bytesOk, recordOk}
-use Rattle.model.specs.Calls.{refusedAccess, unmade, loadCall, packed, savedBytes, dmaSizes, addressOk, blockedRead, order, accessRefusal, plainRefusal}
+use Rattle.model.specs.Calls.{refusedAccess, unmade, loadCall, packed, savedBytes, accessSizes, lineSizes, dmaSizes, addressOk, blockedRead, order, accessRefusal, plainRefusal}
 
 pub unmade-1 : (n : ℕ) (d : Board) (u : Ppu) (r : Access) → d ≡ zeroUnit .board → u ≡ fresh d → r ≡ refusedAccess n u → r ≡ unmade n
 unmade-1 n d u r e f g = g ∙ ap (refusedAccess n) (f ∙ ap fresh e)
 
 -- lengths
-module _ (d : Board) (l r n o p k : ℕ) where
+module _ (d : Board) (l r n o p : ℕ) where
   abbrev fit : Bool
-  fit = eqb l patternLength && (eqb r patternLength && (eqb n (nametableLength d) && (eqb o oamLength && eqb p k)))
+  fit = accessSizes d l r n o p
 
   pub sizes-1 : (l ≡ 4096 → ⊥) → false ≡ fit
   sizes-1 a = simp (ne-eqb _ _ a)
@@ -35,10 +35,22 @@ module _ (d : Board) (l r n o p k : ℕ) where
   pub sizes-4 : l ≡ 4096 → r ≡ 4096 → n ≡ 2048 → (o ≡ 256 → ⊥) → false ≡ fit
   sizes-4 a b c e = simp (eq-eqb _ _ a, eq-eqb _ _ b, eq-eqb _ _ c, ne-eqb _ _ e)
 
-  pub sizes-5 : l ≡ 4096 → r ≡ 4096 → n ≡ 2048 → o ≡ 256 → eqb p k ≡ fit
+  pub sizes-5 : l ≡ 4096 → r ≡ 4096 → n ≡ 2048 → o ≡ 256 → eqb p 32 ≡ fit
   sizes-5 a b c e = simp (eq-eqb _ _ a, eq-eqb _ _ b, eq-eqb _ _ c, eq-eqb _ _ e)
 
 pub ruleset sizes-cases = (sizes-1, sizes-2, sizes-3, sizes-4, sizes-5)
+
+module _ (d : Board) (l r n o p b f : ℕ) (s : Bool) (es : s ≡ accessSizes d l r n o p) where
+  pub line-sizes-1 : s ≡ true → (b ≡ 256 → ⊥) → false ≡ lineSizes d l r n o p b f
+  line-sizes-1 t h = rw (← es, t, ne-eqb b 256 h)
+
+  pub line-sizes-2 : s ≡ true → b ≡ 256 → eqb f 256 ≡ lineSizes d l r n o p b f
+  line-sizes-2 t h = rw (← es, t, eq-eqb b 256 h)
+
+  pub line-sizes-3 : s ≡ false → false ≡ lineSizes d l r n o p b f
+  line-sizes-3 t = rw (← es, t)
+
+pub ruleset line-sizes-cases = (line-sizes-1, line-sizes-2, line-sizes-3)
 
 module _ (o p : ℕ) where
   pub dma-sizes-1 : (o ≡ 256 → ⊥) → false ≡ dmaSizes o p

@@ -2,9 +2,8 @@
 // zero_board, unmade; lengths: access_sizes, dma_sizes, line_sizes; refusals: record_refusal, access_refusal, plain_refusal, blocked_read;
 // the record and the packed answer: finish.
 ghost use mathlib.Core.Path.{_≡_};
-ghost use mathlib.Core.Bool.{cond, _&&_};
-ghost use lib.Dec.{eqb};
-ghost use Rattle.model.specs.Unit.{zeroUnit, patternLength, nametableLength, oamLength};
+ghost use mathlib.Core.Bool.{cond};
+ghost use Rattle.model.specs.Unit.{zeroUnit};
 ghost use Rattle.model.specs.Calls.{
   unmade as unmadeOf,
   loadCall,
@@ -43,17 +42,16 @@ pub fn unmade(number: u8) -> Access
     unit::refused(number, u)
 }
 
-// The lengths of what an access, a line and a run are lent alike, and of one memory more: `last` bytes, of which there are to be `wanted`.
-fn sizes(
+// The lengths of what an access is lent.
+pub fn access_sizes(
     board: Board,
     left: usize,
     right: usize,
     nametables: usize,
     oam: usize,
-    last: usize,
-    wanted: usize,
+    palette: usize,
 ) -> bool
-    ensures { λ r. ⌜ r ≡ (eqb left patternLength && (eqb right patternLength && (eqb nametables (nametableLength board) && (eqb oam oamLength && eqb last wanted)))) ⌝ }
+    ensures { λ r. ⌜ r ≡ accessSizes board left right nametables oam palette ⌝ }
 {
     if left != 4096 {
         return false;
@@ -67,21 +65,7 @@ fn sizes(
     if oam != 256 {
         return false;
     }
-    last == wanted
-}
-
-// The lengths of what an access is lent.
-pub fn access_sizes(
-    board: Board,
-    left: usize,
-    right: usize,
-    nametables: usize,
-    oam: usize,
-    palette: usize,
-) -> bool
-    ensures { λ r. ⌜ r ≡ accessSizes board left right nametables oam palette ⌝ }
-{
-    sizes(board, left, right, nametables, oam, palette, 32)
+    palette == 32
 }
 
 // The lengths of what sprite DMA is lent.
@@ -101,11 +85,19 @@ pub fn line_sizes(
     right: usize,
     nametables: usize,
     oam: usize,
+    palette: usize,
     line: usize,
+    colours: usize,
 ) -> bool
-    ensures { λ r. ⌜ r ≡ lineSizes board left right nametables oam line ⌝ }
+    ensures { λ r. ⌜ r ≡ lineSizes board left right nametables oam palette line colours ⌝ }
 {
-    sizes(board, left, right, nametables, oam, line, 256)
+    if access_sizes(board, left, right, nametables, oam, palette) {
+        if line != 256 {
+            return false;
+        }
+        return colours == 256;
+    }
+    false
 }
 
 // The number of the refusal of a record, 0 where there is none. `sized`: what is lent beside it has the right lengths.

@@ -7,7 +7,7 @@ use lib.Dec.{ltb}
 use lib.ListN.{length, getD}
 use Rattle.model.specs.declared.Ppu.{Ppu}
 use Rattle.model.specs.declared.Board.{Board}
-use Rattle.model.specs.Unit.{unit, patternLength, nametableLength, oamLength, lineLength}
+use Rattle.model.specs.Unit.{unit, patternLength, nametableLength, oamLength, paletteLength, lineLength}
 use Rattle.model.specs.Background.{backgroundShown}
 use Rattle.model.specs.Sprites.{spriteOn, spriteZeroOn, spriteShown}
 use Rattle.model.specs.Line.{tab, anyOf, merged, backgroundOn}
@@ -19,6 +19,12 @@ pub record LineLengths (d : Board) (l r n o b : List ℕ) : Type 0 where
   pub nametables : length n ≡ nametableLength d
   pub oam : length o ≡ oamLength
   pub line : length b ≡ lineLength
+
+-- and of what a run is lent, its colours as bytes
+pub record RunLengths (d : Board) (l r n o p b f : List ℕ) : Type 0 where
+  pub drawn : LineLengths d l r n o b
+  pub palette : length p ≡ paletteLength
+  pub colours : length f ≡ 512
 
 -- a unit of the parts that a line's pixels and flags depend on, the rest zero
 abbrev pub seen : ℕ → ℕ → ℕ → ℕ → ℕ → Board → Ppu

@@ -11,7 +11,8 @@ ghost use lib.ListN.{length, take};
 ghost use Rattle.model.specs.Unit.{state, lineMemory, lineLength, bit, isRendering, isWellFormed};
 ghost use Rattle.model.specs.Sprites.{covers, placesOf, overflows};
 ghost use Rattle.model.specs.Line.{tab, anyOf, hitOf, picture, oneLine, linesRun};
-ghost use Rattle.scanline.specs.Shown.{LineLengths, backOf, overLine, hitLine, seen};
+ghost use Rattle.model.specs.Colours.{numbersOf};
+ghost use Rattle.scanline.specs.Shown.{LineLengths, RunLengths, backOf, overLine, hitLine, seen};
 use model::Board;
 use model::Ppu;
 
@@ -173,13 +174,14 @@ fn draw(
     sprites_shown(u, l, r, o, line)
 }
 
-// A line that is not drawn: all zero from 0 to 239, untouched from 240 on; and the unit after it.
-fn undrawn(u: Ppu, line: &mut [u8]) -> Ppu
-    requires { ⌜ (length (now line) ≡ 256) × (isWellFormed u ≡ true) × (ltb (u .scanline) 240 && isRendering u ≡ false) ⌝ }
-    ensures { λ x. ⌜ ((l r n o : List ℕ) → state x (lineMemory l r n o (now (line .exit))) ≡ oneLine (state u (lineMemory l r n o (now (line .entry))))) ⌝ }
+// A line that is not drawn: all zero, in the backdrop's colour, from 0 to 239, untouched from 240 on; and the unit after it.
+fn undrawn(u: Ppu, palette: &[u8], line: &mut [u8], colours: &mut [u8]) -> Ppu
+    requires { ⌜ (length (now palette) ≡ 32) × (length (now line) ≡ 256) × (length (now colours) ≡ 512) × (isWellFormed u ≡ true) × (ltb (u .scanline) 240 && isRendering u ≡ false) ⌝ }
+    ensures { λ x. ⌜ ((l r n o : List ℕ) → state x (lineMemory l r n o (now (palette .entry)) (now (line .exit)) (numbersOf (now (colours .exit)))) ≡ oneLine (state u (lineMemory l r n o (now (palette .entry)) (now (line .entry)) (numbersOf (now (colours .entry)))))) ⌝ }
 {
     if u.scanline < 240 {
         pixels::clear(line, 256);
+        draw_colours::backdrop(u, palette, colours);
         let mut n = u;
         n.scanline = u.scanline + 1;
         return n;
@@ -194,10 +196,12 @@ pub fn one_line(
     right: &[u8],
     nametables: &[u8],
     oam: &[u8],
+    palette: &[u8],
     line: &mut [u8],
+    colours: &mut [u8],
 ) -> Ppu
-    requires { ⌜ LineLengths (u .board) (now left) (now right) (now nametables) (now oam) (now line) × (isWellFormed u ≡ true) ⌝ }
-    ensures { λ r. ⌜ state r (lineMemory (now (left .entry)) (now (right .entry)) (now (nametables .entry)) (now (oam .entry)) (now (line .exit))) ≡ oneLine (state u (lineMemory (now (left .entry)) (now (right .entry)) (now (nametables .entry)) (now (oam .entry)) (now (line .entry)))) ⌝ }
+    requires { ⌜ RunLengths (u .board) (now left) (now right) (now nametables) (now oam) (now palette) (now line) (now colours) × (isWellFormed u ≡ true) ⌝ }
+    ensures { λ r. ⌜ state r (lineMemory (now (left .entry)) (now (right .entry)) (now (nametables .entry)) (now (oam .entry)) (now (palette .entry)) (now (line .exit)) (numbersOf (now (colours .exit)))) ≡ oneLine (state u (lineMemory (now (left .entry)) (now (right .entry)) (now (nametables .entry)) (now (oam .entry)) (now (palette .entry)) (now (line .entry)) (numbersOf (now (colours .entry))))) ⌝ }
 {
     if lines::draws(u) {
         let board = u.board;
@@ -214,9 +218,10 @@ pub fn one_line(
             oam,
             line,
         );
+        draw_colours::show(u.mask, palette, line, colours);
         return lines::drawn(u, f.hit, f.over);
     }
-    undrawn(u, line)
+    undrawn(u, palette, line, colours)
 }
 
 // n lines.
@@ -227,11 +232,15 @@ pub fn run(
     right: &[u8],
     nametables: &[u8],
     oam: &[u8],
+    palette: &[u8],
     line: &mut [u8],
+    colours: &mut [u8],
 ) -> Ppu
-    requires { ⌜ LineLengths (u .board) (now left) (now right) (now nametables) (now oam) (now line) × (isWellFormed u ≡ true) ⌝ }
-    ensures { λ r. ⌜ state r (lineMemory (now (left .entry)) (now (right .entry)) (now (nametables .entry)) (now (oam .entry)) (now (line .exit))) ≡ linesRun n (state u (lineMemory (now (left .entry)) (now (right .entry)) (now (nametables .entry)) (now (oam .entry)) (now (line .entry)))) ⌝ }
+    requires { ⌜ RunLengths (u .board) (now left) (now right) (now nametables) (now oam) (now palette) (now line) (now colours) × (isWellFormed u ≡ true) ⌝ }
+    ensures { λ r. ⌜ state r (lineMemory (now (left .entry)) (now (right .entry)) (now (nametables .entry)) (now (oam .entry)) (now (palette .entry)) (now (line .exit)) (numbersOf (now (colours .exit)))) ≡ linesRun n (state u (lineMemory (now (left .entry)) (now (right .entry)) (now (nametables .entry)) (now (oam .entry)) (now (palette .entry)) (now (line .entry)) (numbersOf (now (colours .entry))))) ⌝ }
 {
+    let mut table = [0u32; 32];
+    draw_colours::run_table(u, palette, &mut table);
     let mut next = u;
     let mut i: u16 = 0;
     while i < n {
@@ -251,10 +260,11 @@ pub fn run(
                 oam,
                 line,
             );
+            draw_colours::look_up(&table, line, colours);
             next = lines::drawn(next, f.hit, f.over);
             continue;
         }
-        next = undrawn(next, line);
+        next = undrawn(next, palette, line, colours);
     }
     next
 }
@@ -267,11 +277,15 @@ pub fn run_all(
     right: &[u8],
     nametables: &[u8],
     oam: &[u8],
+    palette: &[u8],
     line: &mut [u8],
+    colours: &mut [u8],
 ) -> Ppu
-    requires { ⌜ LineLengths (u .board) (now left) (now right) (now nametables) (now oam) (now line) × (isWellFormed u ≡ true) ⌝ }
-    ensures { λ r. ⌜ state r (lineMemory (now (left .entry)) (now (right .entry)) (now (nametables .entry)) (now (oam .entry)) (now (line .exit))) ≡ linesRun n (state u (lineMemory (now (left .entry)) (now (right .entry)) (now (nametables .entry)) (now (oam .entry)) (now (line .entry)))) ⌝ }
+    requires { ⌜ RunLengths (u .board) (now left) (now right) (now nametables) (now oam) (now palette) (now line) (now colours) × (isWellFormed u ≡ true) ⌝ }
+    ensures { λ r. ⌜ state r (lineMemory (now (left .entry)) (now (right .entry)) (now (nametables .entry)) (now (oam .entry)) (now (palette .entry)) (now (line .exit)) (numbersOf (now (colours .exit)))) ≡ linesRun n (state u (lineMemory (now (left .entry)) (now (right .entry)) (now (nametables .entry)) (now (oam .entry)) (now (palette .entry)) (now (line .entry)) (numbersOf (now (colours .entry))))) ⌝ }
 {
+    let mut table = [0u32; 32];
+    draw_colours::run_table(u, palette, &mut table);
     let mut next = u;
     let mut i: u16 = 0;
     while i < n {
@@ -291,10 +305,11 @@ pub fn run_all(
                 oam,
                 line,
             );
+            draw_colours::look_up(&table, line, colours);
             next = lines::drawn(next, f.hit, f.over);
             continue;
         }
-        next = undrawn(next, line);
+        next = undrawn(next, palette, line, colours);
     }
     next
 }

@@ -59,7 +59,18 @@ fn drew(u: Ppu, cell: usize, line: &mut [u8]) -> Ppu
     left[16] = 255;
     let right = [0u8; 4096];
     let oam = [0u8; 256];
-    let a = ppu::line(u, &left, &right, &nametables, &oam, line);
+    let palette = [0u8; 32];
+    let mut colours = [0u16; 256];
+    let a = ppu::line(
+        u,
+        &left,
+        &right,
+        &nametables,
+        &oam,
+        &palette,
+        line,
+        &mut colours,
+    );
     let n = a.unit;
     n
 }
@@ -73,8 +84,20 @@ fn ran(scanline: u16) -> u16 {
     let right = [0u8; 4096];
     let nametables = [0u8; 2048];
     let oam = [0u8; 256];
+    let palette = [0u8; 32];
     let mut line = [0u8; 256];
-    let a = ppu::run(u, 262, &left, &right, &nametables, &oam, &mut line);
+    let mut colours = [0u16; 256];
+    let a = ppu::run(
+        u,
+        262,
+        &left,
+        &right,
+        &nametables,
+        &oam,
+        &palette,
+        &mut line,
+        &mut colours,
+    );
     let answer = a.answer;
     answer.lines
 }

@@ -4,8 +4,8 @@ use Rattle.calls_play.proofs.play_entry.Statement.{statement}
 use Rattle.calls_play.proofs.play_entry.Tie as tie
 use Rattle.calls_play.proofs.play_entry.Reads as reads
 use Rattle.calls_play.proofs.play_entry.Lts as lts
-use Rattle.calls_play.proofs.read.Reads as read-reads
 use Rattle.accesses.proofs.write.Reads as write-reads
+use Rattle.calls_play.proofs.read.Reads as read-reads
 use Rattle.runs.proofs.run_all.Reads as run-all-reads
 use Rattle.unit.proofs.refused.Reads as refused-reads
 
@@ -84,6 +84,12 @@ same-length-14 c = search needs
 same-length-15 : tie.Need-same-length-15
 same-length-15 c = search needs
 
+same-length-16 : tie.Need-same-length-16
+same-length-16 c = search needs
+
+same-length-17 : tie.Need-same-length-17
+same-length-17 c = search needs
+
 returns-3 : tie.Need-returns-3
 returns-3 c = search plays-cases
 
@@ -119,5 +125,7 @@ play-entry-spec =
     same-length-13
     same-length-14
     same-length-15
+    same-length-16
+    same-length-17
     returns-3
     returns-4)

@@ -1,63 +1,44 @@
-use Prim.Native.Nat.{_-_}
 use native.Mathlib.Omega.{arith}
+use Rattle.choice.proofs.Loops.{worded-distances}
 use borrow.Author.Needs.{needs}
-use Rattle.choice.specs.Distance.{distanceAt}
-use Rattle.choice.proofs.Loops.{Filled, filled-loop}
 use Rattle.choice.proofs.distances.Statement.{statement}
 use Rattle.choice.proofs.distances.Tie as tie
 use Rattle.choice.proofs.distances.Reads as reads
 use Rattle.choice.proofs.distances.Lts as lts
-use Rattle.choice.proofs.distance.Reads as distance-reads
+use Rattle.choice.proofs.from_words.Reads as from-words-reads
+use Rattle.choice.proofs.words.Reads as words-reads
 
-abbrev Inv-loop : tie.InvT-loop
-Inv-loop n oam d₀ i₀ d i = Filled (distanceAt n oam) d₀ d i
+-- src/lib.rt:85:16
+slice-aggregate-words : tie.Need-slice-aggregate-words
+slice-aggregate-words c = search needs
 
-abbrev μ-loop : tie.MeasureT-loop
-μ-loop n oam d₀ i₀ d i = 64 - i
+-- src/lib.rt:85:5
+words-requires : tie.Need-words-requires
+words-requires c κs = search needs
 
-loop-holds : tie.Need-loop-holds Inv-loop μ-loop
-loop-holds c = search (filled-loop, arith)
+-- src/lib.rt:86:19
+slice-aggregate-from-words : tie.Need-slice-aggregate-from-words
+slice-aggregate-from-words c = search needs
 
-mul-distance : tie.Need-mul-distance Inv-loop μ-loop
-mul-distance c = search needs
+-- src/lib.rt:86:5
+from-words-requires : tie.Need-from-words-requires
+from-words-requires c κs = search needs
 
-shared-slice-read-distance : tie.Need-shared-slice-read-distance Inv-loop μ-loop
-shared-slice-read-distance c = search needs
-
-distance-requires : tie.Need-distance-requires Inv-loop μ-loop
-distance-requires c κs = search needs
-
-slice-write-d : tie.Need-slice-write-d Inv-loop μ-loop
-slice-write-d c = search needs
-
-add-i : tie.Need-add-i Inv-loop μ-loop
-add-i c = search needs
-
-loop-less : tie.Need-loop-less Inv-loop μ-loop
-loop-less c = search needs
-
-loop-again : tie.Need-loop-again Inv-loop μ-loop
-loop-again c = search (filled-loop, arith)
-
-same-length : tie.Need-same-length Inv-loop μ-loop
+-- src/lib.rt:80:1
+same-length : tie.Need-same-length
 same-length c = search needs
 
-returns : tie.Need-returns Inv-loop μ-loop
-returns c = search (filled-loop, arith)
+-- src/lib.rt:80:1
+returns : tie.Need-returns
+returns c = search (worded-distances, arith)
 
 pub distances-spec : {M : Type 1} → statement M
 distances-spec =
     tie.close
     (tie.spec
-    Inv-loop
-    μ-loop
-    loop-holds
-    mul-distance
-    shared-slice-read-distance
-    distance-requires
-    slice-write-d
-    add-i
-    loop-less
-    loop-again
+    slice-aggregate-words
+    words-requires
+    slice-aggregate-from-words
+    from-words-requires
     same-length
     returns)

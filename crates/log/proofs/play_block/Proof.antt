@@ -1,7 +1,7 @@
 use native.Mathlib.Omega.{arith}
 use lib.ListN.{length-take}
-use borrow.Author.Needs.{needs}
 use Rattle.log.proofs.Playing.{block-done}
+use borrow.Author.Needs.{needs}
 use Rattle.log.proofs.play_block.Statement.{statement}
 use Rattle.log.proofs.play_block.Tie as tie
 use Rattle.log.proofs.play_block.Reads as reads
@@ -23,7 +23,7 @@ play-log-requires : tie.Need-play-log-requires
 play-log-requires c κs = simp length-take (omega arith)
 
 keep-requires : tie.Need-keep-requires
-keep-requires c κs = (c .before .before .before .before .before .before .before .before .before .before .before .before .before .before .before .before .before .before .before .before .before .before .before .before .whole .ensures .1, c .before .before .before .before .before .before .before .before .before .before .before .before .before .before .before .before .before .before .before .before .before .before .before .before .before .before .before .before .before .before .before .before .before .pre .0)
+keep-requires c κs = (c .before .before .before .before .before .before .before .before .before .before .before .before .before .before .before .before .before .before .before .before .before .before .before .before .before .before .before .whole .ensures .1, c .before .before .before .before .before .before .before .before .before .before .before .before .before .before .before .before .before .before .before .before .before .before .before .before .before .before .before .before .before .before .before .before .before .before .before .before .before .pre .0)
 
 same-length : tie.Need-same-length
 same-length c = search needs
@@ -49,9 +49,11 @@ same-length-7 c = search needs
 same-length-8 : tie.Need-same-length-8
 same-length-8 c = search needs
 
+same-length-9 : tie.Need-same-length-9
+same-length-9 c = search needs
+
 returns : tie.Need-returns
-returns c =
-    block-done _ _ _ _ _ _ _ _ _ _ _ (c .before .before .before .before .before .before .before .before .before .before .before .before .before .before .before .before .before .before .before .before .before .before .before .before .before .before .before .whole .ensures .0) (c .before .before .before .before .before .before .before .before .before .before .before .before .before .before .before .before .before .before .play-log .ensures) (c .before .before .keep .ensures .1) (c .before .before .keep .ensures .0)
+returns c = block-done _ _ _ _ _ _ _ _ _ _ _ (c .before .before .before .before .before .before .before .before .before .before .before .before .before .before .before .before .before .before .before .before .before .before .before .before .before .before .before .before .before .before .whole .ensures .0) (c .before .before .before .before .before .before .before .before .before .before .before .before .before .before .before .before .before .before .before .before .play-log .ensures) (c .before .before .keep .ensures .1) (c .before .before .keep .ensures .0)
 
 pub play-block-spec : {M : Type 1} → statement M
 play-block-spec =
@@ -70,4 +72,5 @@ play-block-spec =
     same-length-6
     same-length-7
     same-length-8
+    same-length-9
     returns)

@@ -4,14 +4,14 @@ use Rattle.log.proofs.play_one.Statement.{statement}
 use Rattle.log.proofs.play_one.Tie as tie
 use Rattle.log.proofs.play_one.Reads as reads
 use Rattle.log.proofs.play_one.Lts as lts
-use Rattle.calls_play.proofs.play_entry.Reads as play-entry-reads
 use Rattle.answers.proofs.put_text.Reads as put-text-reads
+use Rattle.calls_play.proofs.play_entry.Reads as play-entry-reads
 
 play-entry-requires : tie.Need-play-entry-requires
 play-entry-requires c κs = search needs
 
 put-text-requires : tie.Need-put-text-requires
-put-text-requires c κs = (printable _ _ _ _ _ _ _ _ _ (c .before .before .before .before .before .before .before .before .before .before .before .before .before .play-entry .ensures), search needs)
+put-text-requires c κs = (printable _ _ _ _ (c .before .before .before .before .before .before .before .before .before .before .before .before .before .before .before .play-entry .ensures), c .before .before .before .before .before .before .before .before .before .before .before .before .before .before .before .before .before .before .before .before .before .before .before .before .before .before .before .before .before .before .before .pre)
 
 same-length : tie.Need-same-length
 same-length c = search needs
@@ -34,6 +34,9 @@ same-length-6 c = search needs
 same-length-7 : tie.Need-same-length-7
 same-length-7 c = search needs
 
+same-length-8 : tie.Need-same-length-8
+same-length-8 c = search needs
+
 returns : tie.Need-returns
 returns c = search step-done
 
@@ -50,4 +53,5 @@ play-one-spec =
     same-length-5
     same-length-6
     same-length-7
+    same-length-8
     returns)

@@ -1,11 +1,11 @@
-use borrow.Author.Needs.{needs}
 use Rattle.player.proofs.Start.{begins}
+use borrow.Author.Needs.{needs}
 use Rattle.player.proofs.main.Statement.{statement}
 use Rattle.player.proofs.main.Tie as tie
 use Rattle.player.proofs.main.Reads as reads
 use Rattle.player.proofs.main.Lts as lts
-use Rattle.player.proofs.play_input.Reads as play-input-reads
 use Rattle.accesses.proofs.fresh.Reads as fresh-reads
+use Rattle.player.proofs.play_input.Reads as play-input-reads
 
 fresh-requires : tie.Need-fresh-requires
 fresh-requires c κs = search needs
@@ -34,6 +34,9 @@ slice-aggregate-play-input-7 c = search needs
 slice-aggregate-play-input-8 : tie.Need-slice-aggregate-play-input-8
 slice-aggregate-play-input-8 c = search needs
 
+slice-aggregate-play-input-9 : tie.Need-slice-aggregate-play-input-9
+slice-aggregate-play-input-9 c = search needs
+
 play-input-requires : tie.Need-play-input-requires
 play-input-requires c κs = (search begins, search needs, search needs)
 
@@ -53,5 +56,6 @@ main-spec =
     slice-aggregate-play-input-6
     slice-aggregate-play-input-7
     slice-aggregate-play-input-8
+    slice-aggregate-play-input-9
     play-input-requires
     returns)

@@ -4,8 +4,8 @@ use Rattle.ppu.proofs.play_entry.Statement.{statement}
 use Rattle.ppu.proofs.play_entry.Tie as tie
 use Rattle.ppu.proofs.play_entry.Reads as reads
 use Rattle.ppu.proofs.play_entry.Lts as lts
-use Rattle.ppu.proofs.read_record.Reads as read-record-reads
 use Rattle.ppu.proofs.ppu_write.Reads as ppu-write-reads
+use Rattle.ppu.proofs.read_record.Reads as read-record-reads
 use Rattle.ppu.proofs.run_all_record.Reads as run-all-record-reads
 
 enum-known-e : tie.Need-enum-known-e
@@ -89,6 +89,12 @@ same-length-17 c = search needs
 same-length-18 : tie.Need-same-length-18
 same-length-18 c = search needs
 
+same-length-19 : tie.Need-same-length-19
+same-length-19 c = search needs
+
+same-length-20 : tie.Need-same-length-20
+same-length-20 c = search needs
+
 returns-3 : tie.Need-returns-3
 returns-3 c = search entry-cases
 
@@ -126,5 +132,7 @@ play-entry-spec =
     same-length-16
     same-length-17
     same-length-18
+    same-length-19
+    same-length-20
     returns-3
     returns-4)

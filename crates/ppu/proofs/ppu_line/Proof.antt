@@ -1,19 +1,23 @@
 use Rattle.model.proofs.Accepted.{form-long}
-use Rattle.ppu.proofs.Cases.{export-cases}
+use Rattle.ppu.proofs.Cases.{run-cases}
 use borrow.Author.Needs.{needs}
 use Rattle.ppu.proofs.ppu_line.Statement.{statement}
 use Rattle.ppu.proofs.ppu_line.Tie as tie
 use Rattle.ppu.proofs.ppu_line.Reads as reads
 use Rattle.ppu.proofs.ppu_line.Lts as lts
+use Rattle.memory_pairs.proofs.count.Reads as count-reads
+use Rattle.record.proofs.read_unit.Reads as read-unit-reads
 use Rattle.refusals.proofs.finish.Reads as finish-reads
-use Rattle.runs.proofs.line.Reads as line-reads
 use Rattle.refusals.proofs.line_sizes.Reads as line-sizes-reads
 use Rattle.refusals.proofs.record_refusal.Reads as record-refusal-reads
 use Rattle.refusals.proofs.zero_board.Reads as zero-board-reads
-use Rattle.record.proofs.read_unit.Reads as read-unit-reads
+use Rattle.runs.proofs.line_bytes.Reads as line-bytes-reads
 
 zero-board-requires : tie.Need-zero-board-requires
 zero-board-requires c κs = search needs
+
+count-requires : tie.Need-count-requires
+count-requires c κs = search needs
 
 line-sizes-requires : tie.Need-line-sizes-requires
 line-sizes-requires c κs = search needs
@@ -28,13 +32,13 @@ same-length : tie.Need-same-length
 same-length c = search needs
 
 returns : tie.Need-returns
-returns c = search export-cases
+returns c = search run-cases
 
 read-unit-requires : tie.Need-read-unit-requires
 read-unit-requires c κs = search form-long
 
-line-requires : tie.Need-line-requires
-line-requires c κs = search needs
+line-bytes-requires : tie.Need-line-bytes-requires
+line-bytes-requires c κs = search needs
 
 finish-requires : tie.Need-finish-requires
 finish-requires c κs = search needs
@@ -45,22 +49,27 @@ same-length-2 c = search needs
 same-length-3 : tie.Need-same-length-3
 same-length-3 c = search needs
 
+same-length-4 : tie.Need-same-length-4
+same-length-4 c = search needs
+
 returns-2 : tie.Need-returns-2
-returns-2 c = search export-cases
+returns-2 c = search run-cases
 
 pub ppu-line-spec : {M : Type 1} → statement M
 ppu-line-spec =
     tie.close
     (tie.spec
     zero-board-requires
+    count-requires
     line-sizes-requires
     record-refusal-requires
     cast-result
     same-length
     returns
     read-unit-requires
-    line-requires
+    line-bytes-requires
     finish-requires
     same-length-2
     same-length-3
+    same-length-4
     returns-2)

@@ -34,6 +34,9 @@ same-length-6 c = search needs
 same-length-7 : tie.Need-same-length-7
 same-length-7 c = search needs
 
+same-length-8 : tie.Need-same-length-8
+same-length-8 c = search needs
+
 returns : tie.Need-returns
 returns c = search front-exported
 
@@ -50,4 +53,5 @@ ppu-play-spec =
     same-length-5
     same-length-6
     same-length-7
+    same-length-8
     returns)

@@ -1,17 +1,14 @@
-use Rattle.runs.proofs.Cases.{line-cases, line-long, line-formed}
+use Rattle.runs.proofs.Cases.{numbers-cases}
 use borrow.Author.Needs.{needs}
 use Rattle.runs.proofs.line.Statement.{statement}
 use Rattle.runs.proofs.line.Tie as tie
 use Rattle.runs.proofs.line.Reads as reads
 use Rattle.runs.proofs.line.Lts as lts
-use Rattle.refusals.proofs.line_sizes.Reads as line-sizes-reads
+use Rattle.memory_pairs.proofs.put.Reads as put-reads
+use Rattle.memory_pairs.proofs.take.Reads as take-reads
 use Rattle.refusals.proofs.plain_refusal.Reads as plain-refusal-reads
-use Rattle.unit.proofs.done.Reads as done-reads
+use Rattle.runs.proofs.line_bytes.Reads as line-bytes-reads
 use Rattle.unit.proofs.refused.Reads as refused-reads
-use Rattle.scanline.proofs.one_line.Reads as one-line-reads
-
-line-sizes-requires : tie.Need-line-sizes-requires
-line-sizes-requires c κs = search needs
 
 plain-refusal-requires : tie.Need-plain-refusal-requires
 plain-refusal-requires c κs = search needs
@@ -20,29 +17,48 @@ refused-requires : tie.Need-refused-requires
 refused-requires c κs = search needs
 
 returns : tie.Need-returns
-returns c = search line-cases
+returns c = search numbers-cases
 
-one-line-requires : tie.Need-one-line-requires
-one-line-requires c κs = (search line-long, search line-formed)
+slice-aggregate-put : tie.Need-slice-aggregate-put
+slice-aggregate-put c = search needs
 
-done-requires : tie.Need-done-requires
-done-requires c κs = search needs
+put-requires : tie.Need-put-requires
+put-requires c κs = search needs
+
+slice-aggregate-line-bytes : tie.Need-slice-aggregate-line-bytes
+slice-aggregate-line-bytes c = search needs
+
+line-bytes-requires : tie.Need-line-bytes-requires
+line-bytes-requires c κs = search needs
+
+slice-aggregate-take : tie.Need-slice-aggregate-take
+slice-aggregate-take c = search needs
+
+take-requires : tie.Need-take-requires
+take-requires c κs = search needs
 
 same-length : tie.Need-same-length
 same-length c = search needs
 
+same-length-2 : tie.Need-same-length-2
+same-length-2 c = search needs
+
 returns-2 : tie.Need-returns-2
-returns-2 c = search line-cases
+returns-2 c = search numbers-cases
 
 pub line-spec : {M : Type 1} → statement M
 line-spec =
     tie.close
     (tie.spec
-    line-sizes-requires
     plain-refusal-requires
     refused-requires
     returns
-    one-line-requires
-    done-requires
+    slice-aggregate-put
+    put-requires
+    slice-aggregate-line-bytes
+    line-bytes-requires
+    slice-aggregate-take
+    take-requires
     same-length
+    same-length-2
     returns-2)

@@ -1,17 +1,14 @@
-use Rattle.runs.proofs.Cases.{run-cases, line-long, line-formed, line-next}
+use Rattle.runs.proofs.Cases.{numbers-cases}
 use borrow.Author.Needs.{needs}
 use Rattle.runs.proofs.run.Statement.{statement}
 use Rattle.runs.proofs.run.Tie as tie
 use Rattle.runs.proofs.run.Reads as reads
 use Rattle.runs.proofs.run.Lts as lts
-use Rattle.refusals.proofs.line_sizes.Reads as line-sizes-reads
+use Rattle.memory_pairs.proofs.put.Reads as put-reads
+use Rattle.memory_pairs.proofs.take.Reads as take-reads
 use Rattle.refusals.proofs.plain_refusal.Reads as plain-refusal-reads
-use Rattle.runs.proofs.run_done.Reads as run-done-reads
+use Rattle.runs.proofs.run_bytes.Reads as run-bytes-reads
 use Rattle.unit.proofs.refused.Reads as refused-reads
-use Rattle.lines.proofs.nmi_count.Reads as nmi-count-reads
-
-line-sizes-requires : tie.Need-line-sizes-requires
-line-sizes-requires c κs = search needs
 
 plain-refusal-requires : tie.Need-plain-refusal-requires
 plain-refusal-requires c κs = search needs
@@ -20,29 +17,48 @@ refused-requires : tie.Need-refused-requires
 refused-requires c κs = search needs
 
 returns : tie.Need-returns
-returns c = search run-cases
+returns c = search numbers-cases
 
-nmi-count-requires : tie.Need-nmi-count-requires
-nmi-count-requires c κs = search line-next
+slice-aggregate-put : tie.Need-slice-aggregate-put
+slice-aggregate-put c = search needs
 
-run-done-requires : tie.Need-run-done-requires
-run-done-requires c κs = (search line-long, search line-formed)
+put-requires : tie.Need-put-requires
+put-requires c κs = search needs
+
+slice-aggregate-run-bytes : tie.Need-slice-aggregate-run-bytes
+slice-aggregate-run-bytes c = search needs
+
+run-bytes-requires : tie.Need-run-bytes-requires
+run-bytes-requires c κs = search needs
+
+slice-aggregate-take : tie.Need-slice-aggregate-take
+slice-aggregate-take c = search needs
+
+take-requires : tie.Need-take-requires
+take-requires c κs = search needs
 
 same-length : tie.Need-same-length
 same-length c = search needs
 
+same-length-2 : tie.Need-same-length-2
+same-length-2 c = search needs
+
 returns-2 : tie.Need-returns-2
-returns-2 c = search run-cases
+returns-2 c = search numbers-cases
 
 pub run-spec : {M : Type 1} → statement M
 run-spec =
     tie.close
     (tie.spec
-    line-sizes-requires
     plain-refusal-requires
     refused-requires
     returns
-    nmi-count-requires
-    run-done-requires
+    slice-aggregate-put
+    put-requires
+    slice-aggregate-run-bytes
+    run-bytes-requires
+    slice-aggregate-take
+    take-requires
     same-length
+    same-length-2
     returns-2)

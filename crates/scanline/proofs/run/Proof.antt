@@ -1,20 +1,29 @@
-use borrow.Author.Needs.{needs}
 use Prim.Native.Nat.{_-_}
-use Rattle.scanline.proofs.Cases.{Running, run-cases, v-small, x-small, draws-not, drawn-low, drawn-shown, drawn-seen, line-1, line-2}
+use Rattle.scanline.proofs.Cases.{Running, run-cases, run-drawn, run-table, picture-pixels, v-small, x-small, draws-not, drawn-low, drawn-shown, drawn-seen, line-2}
+use borrow.Author.Needs.{needs}
 use Rattle.scanline.proofs.run.Statement.{statement}
 use Rattle.scanline.proofs.run.Tie as tie
 use Rattle.scanline.proofs.run.Reads as reads
 use Rattle.scanline.proofs.run.Lts as lts
-use Rattle.scanline.proofs.draw.Reads as draw-reads
+use Rattle.draw_colours.proofs.look_up.Reads as look-up-reads
+use Rattle.draw_colours.proofs.run_table.Reads as run-table-reads
 use Rattle.lines.proofs.drawn.Reads as drawn-reads
 use Rattle.lines.proofs.draws.Reads as draws-reads
+use Rattle.scanline.proofs.draw.Reads as draw-reads
 use Rattle.scanline.proofs.undrawn.Reads as undrawn-reads
 
 abbrev Inv-loop : tie.InvT-loop
-Inv-loop n left right nametables oam line₀ next₀ i₀ line next i = Running left right nametables oam n next₀ line₀ line next i
+Inv-loop n left right nametables oam palette line₀ colours₀ table next₀ i₀ line colours next i =
+    Running left right nametables oam palette n next₀ line₀ colours₀ line colours next i
 
 abbrev μ-loop : tie.MeasureT-loop
-μ-loop n left right nametables oam line₀ next₀ i₀ line next i = n - i
+μ-loop n left right nametables oam palette line₀ colours₀ table next₀ i₀ line colours next i = n - i
+
+slice-aggregate-run-table : tie.Need-slice-aggregate-run-table Inv-loop μ-loop
+slice-aggregate-run-table c = search needs
+
+run-table-requires : tie.Need-run-table-requires Inv-loop μ-loop
+run-table-requires c κs = search needs
 
 loop-holds : tie.Need-loop-holds Inv-loop μ-loop
 loop-holds c = search run-cases
@@ -28,6 +37,12 @@ draws-requires c κs = search needs
 draw-requires : tie.Need-draw-requires Inv-loop μ-loop
 draw-requires c κs = (search needs, search v-small, search x-small, search drawn-low, search drawn-seen)
 
+slice-aggregate-look-up : tie.Need-slice-aggregate-look-up Inv-loop μ-loop
+slice-aggregate-look-up c = search needs
+
+look-up-requires : tie.Need-look-up-requires Inv-loop μ-loop
+look-up-requires c κs = (search (run-table, drawn-shown), picture-pixels _ _ _ _ _ _ (c .before .before .before .before .before .draw .ensures .0), search needs)
+
 drawn-requires : tie.Need-drawn-requires Inv-loop μ-loop
 drawn-requires c κs = (search v-small, search drawn-low, search drawn-shown)
 
@@ -35,10 +50,23 @@ loop-less : tie.Need-loop-less Inv-loop μ-loop
 loop-less c = search needs
 
 loop-again : tie.Need-loop-again Inv-loop μ-loop
-loop-again c = search (run-cases, line-1)
+loop-again c =
+    run-drawn _ _ _ _ _ _ _ _ _ _ _ _ _ _ _ _ _ _ _ _
+    (c .before .before .before .before .before .before .before .before .before .before .before .before .before .before .before .before .before .run-table .ensures)
+    (c .before .before .before .before .before .before .before .before .before .before .before .before .before .before .before .loop .inv)
+    (c .before .before .before .before .before .before .before .before .before .before .before .before .before .before .loop-test .taken)
+    (c .before .before .before .before .before .before .before .before .before .before .before .before .before .draws .ensures)
+    (c .before .before .before .before .before .before .before .before .before .before .before .before .if1 .taken)
+    (c .before .before .before .look-up .ensures)
+    (c .before .before .before .before .before .before .before .before .before .draw .ensures .0)
+    (c .before .before .before .before .before .before .before .before .before .draw .ensures .1)
+    (c .before .before .before .before .before .before .before .before .before .draw .ensures .2)
+    (c .drawn .ensures)
+    (c .before .before .before .before .before .before .before .before .line .given)
+    (c .before .before .colours .given)
 
 undrawn-requires : tie.Need-undrawn-requires Inv-loop μ-loop
-undrawn-requires c κs = (search needs, search needs, search draws-not)
+undrawn-requires c κs = (search needs, search needs, search needs, search needs, search draws-not)
 
 loop-less-2 : tie.Need-loop-less-2 Inv-loop μ-loop
 loop-less-2 c = search needs
@@ -49,6 +77,9 @@ loop-again-2 c = search (run-cases, line-2)
 same-length : tie.Need-same-length Inv-loop μ-loop
 same-length c = search needs
 
+same-length-2 : tie.Need-same-length-2 Inv-loop μ-loop
+same-length-2 c = search needs
+
 returns : tie.Need-returns Inv-loop μ-loop
 returns c = search run-cases
 
@@ -58,10 +89,14 @@ run-spec =
     (tie.spec
     Inv-loop
     μ-loop
+    slice-aggregate-run-table
+    run-table-requires
     loop-holds
     add-i
     draws-requires
     draw-requires
+    slice-aggregate-look-up
+    look-up-requires
     drawn-requires
     loop-less
     loop-again
@@ -69,4 +104,5 @@ run-spec =
     loop-less-2
     loop-again-2
     same-length
+    same-length-2
     returns)
