@@ -27,13 +27,17 @@ low-six : (u : Ppu) (p : List ℕ) (n : ℕ) → colourAt u p n % 64 ≡ greyed 
 unfolding colourAt
 low-six u p n = omega (arith, greyed-small (u .mask) (getD p (shownCell u n) 0 % 64) (omega arith))
 
+emphasis-bits : (u : Ppu) → emphasis u ≡ u .mask / 32 % 8
+unfolding emphasis
+emphasis-bits u = omega arith
+
 pub colour-small : (u : Ppu) (p : List ℕ) (n : ℕ) → colourAt u p n < 512
-unfolding colourAt emphasis
-colour-small u p n = omega (arith, greyed-small (u .mask) (getD p (shownCell u n) 0 % 64) (omega arith))
+unfolding colourAt
+colour-small u p n = omega (arith, greyed-small (u .mask) (getD p (shownCell u n) 0 % 64) (omega arith), emphasis-bits u)
 
 colour-emphasis : (u : Ppu) (p : List ℕ) (n : ℕ) → colourAt u p n / 64 ≡ u .mask / 32 % 8
-unfolding colourAt emphasis
-colour-emphasis u p n = omega (arith, greyed-small (u .mask) (getD p (shownCell u n) 0 % 64) (omega arith))
+unfolding colourAt
+colour-emphasis u p n = omega (arith, greyed-small (u .mask) (getD p (shownCell u n) 0 % 64) (omega arith), emphasis-bits u)
 
 -- pixel number n shows cell n while mask bit 3 or 4 is set, or v is below $3F00
 pub cell-drawn : (u : Ppu) (n : ℕ) → isRendering u ≡ true → shownCell u n ≡ n
@@ -42,11 +46,11 @@ cell-drawn u n e = rw e
 
 pub cell-off : (u : Ppu) (n : ℕ) → u .v % 16384 < 16128 → shownCell u n ≡ n
 unfolding shownCell isOverridden
-cell-off u n h = go (isRendering u) (lt-leb 16128 (u .v % 16384) h)
+cell-off u n h = go (isRendering u) _ _ (lt-leb 16128 (u .v % 16384) h)
   where
-    go : (x : Bool) {y : Bool} → y ≡ false → cond (not x && y) (paletteCell (u .v % 16384)) n ≡ n
-    go true e = refl
-    go false e = rw e
+    go : (x y : Bool) (c : ℕ) → y ≡ false → cond (not x && y) c n ≡ n
+    go true y c e = refl
+    go false y c e = rw e
 
 -- and else every pixel number the cell at v
 pub cell-override : (u : Ppu) (n : ℕ) → isRendering u ≡ false → 16128 ≤ u .v % 16384 → shownCell u n ≡ paletteCell (u .v % 16384)
