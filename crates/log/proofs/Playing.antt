@@ -53,16 +53,16 @@ step-done e s x m out out′ at w y h f g k =
 -- A LOG: played up to a place, the log's end where a refusal 5 has ended the play
 pub record Playing (log out₀ : List ℕ) (s₀ : State) (g : Going) (m : Memory) (out : List ℕ) : Type 0 where
   pub place : g .at ≤ length log
-  pub over : g .ended ≡ true → length log ≤ g .at
+  pub over : g .played .ended ≡ true → length log ≤ g .at
   pub long : length out ≡ length out₀
   pub lengths : SameLengths (s₀ .memory) m
-  pub room : g .written + 15 * ((length log - g .at + 3) / 4) ≤ length out₀
-  pub text : playedText (recordsOf log) s₀ ≡ take (g .written) out ++ playedText (recordsOf (drop (g .at) log)) (state (g .unit) m)
-  pub rest : drop (g .written) out ≡ drop (g .written) out₀
-  pub left : playedState (recordsOf log) s₀ ≡ playedState (recordsOf (drop (g .at) log)) (state (g .unit) m)
-  pub goes : playEnds (recordsOf log) s₀ ≡ g .ended || playEnds (recordsOf (drop (g .at) log)) (state (g .unit) m)
+  pub room : g .played .written + 15 * ((length log - g .at + 3) / 4) ≤ length out₀
+  pub text : playedText (recordsOf log) s₀ ≡ take (g .played .written) out ++ playedText (recordsOf (drop (g .at) log)) (state (g .played .unit) m)
+  pub rest : drop (g .played .written) out ≡ drop (g .played .written) out₀
+  pub left : playedState (recordsOf log) s₀ ≡ playedState (recordsOf (drop (g .at) log)) (state (g .played .unit) m)
+  pub goes : playEnds (recordsOf log) s₀ ≡ g .played .ended || playEnds (recordsOf (drop (g .at) log)) (state (g .played .unit) m)
 
-pub play-start : (log out : List ℕ) (u : Ppu) (m : Memory) (g : Going) → 15 * ((length log + 3) / 4) ≤ length out → g ≡ record { unit = u; at = 0; written = 0; ended = false }
+pub play-start : (log out : List ℕ) (u : Ppu) (m : Memory) (g : Going) → 15 * ((length log + 3) / 4) ≤ length out → g ≡ record { played = record { unit = u; written = 0; ended = false }; at = 0 }
     → Playing log out (state u m) g m out
 play-start log out u m g h e =
     rw e
@@ -98,7 +98,7 @@ drop-length-pos at l h = simp length-drop (omega arith)
 module _ (log out₀ : List ℕ) (s₀ : State) (g : Going) (m : Memory) (out : List ℕ) (y : Playing log out₀ s₀ g m out) (h : g .at < length log)
     (x : Going) (m′ : Memory) (out′ : List ℕ) (i : IsNext log g m out x m′ out′) where
   abbrev s : State
-  s = state (g .unit) m
+  s = state (g .played .unit) m
 
   abbrev e : Entry
   e = entryOf (recordsOf (drop (g .at) log))
@@ -107,7 +107,7 @@ module _ (log out₀ : List ℕ) (s₀ : State) (g : Going) (m : Memory) (out : 
   t = entryText e (playEntry e s .answer) (playEntry e s .after .unit .scanline)
 
   abbrev w : ℕ
-  w = g .written
+  w = g .played .written
 
   short : length t ≤ 15
   short = text-short e (playEntry e s .answer) (playEntry e s .after .unit .scanline)
@@ -118,12 +118,12 @@ module _ (log out₀ : List ℕ) (s₀ : State) (g : Going) (m : Memory) (out : 
   rest-same : drop (w + length t) out ≡ drop (w + length t) out₀
   rest-same = drop-more w (length t) out out₀ (y .rest)
 
-  after : playEntry e s .after ≡ state (x .unit) m′
+  after : playEntry e s .after ≡ state (x .played .unit) m′
   after = sym (i .step .after)
 
   -- the play was not over, and what is left of it is the entry and what is left then
-  open-still : g .ended ≡ false
-  open-still = go (g .ended) (y .over)
+  open-still : g .played .ended ≡ false
+  open-still = go (g .played .ended) (y .over)
     where
       go : (b : Bool) → (b ≡ true → length log ≤ g .at) → b ≡ false
       go true o = absurd (omega (arith, o refl, h))
@@ -135,52 +135,52 @@ module _ (log out₀ : List ℕ) (s₀ : State) (g : Going) (m : Memory) (out : 
   behind : x .at ≡ min (g .at + 4) (length log) → drop 4 (drop (g .at) log) ≡ drop (x .at) log
   behind z = drop-drop 4 (g .at) log ∙ sym (drop-least (g .at + 4) log) ∙ ap (λ (a : ℕ). drop a log) (sym z)
 
-  rest-text : playedText (recordsOf (drop (g .at) log)) s ≡ t ++ playedText (recordsOf (drop (x .at) log)) (state (x .unit) m′)
-  rest-text = text-first (drop (g .at) log) s (drop-length-pos (g .at) log h) ∙ go (x .ended) (i .place) (i .step .ended)
+  rest-text : playedText (recordsOf (drop (g .at) log)) s ≡ t ++ playedText (recordsOf (drop (x .at) log)) (state (x .played .unit) m′)
+  rest-text = text-first (drop (g .at) log) s (drop-length-pos (g .at) log h) ∙ go (x .played .ended) (i .place) (i .step .ended)
     where
       go : (b : Bool) → x .at ≡ cond b (length log) (min (g .at + 4) (length log)) → b ≡ ends (playEntry e s)
-          → t ++ cond (ends (playEntry e s)) [] (playedText (recordsOf (drop 4 (drop (g .at) log))) (playEntry e s .after)) ≡ t ++ playedText (recordsOf (drop (x .at) log)) (state (x .unit) m′)
+          → t ++ cond (ends (playEntry e s)) [] (playedText (recordsOf (drop 4 (drop (g .at) log))) (playEntry e s .after)) ≡ t ++ playedText (recordsOf (drop (x .at) log)) (state (x .played .unit) m′)
       go true p z = rw (← z, gone p) (unfold recordsOf playedText in refl)
       go false p z = rw (← z, behind p, after)
 
-  rest-state : playedState (recordsOf (drop (g .at) log)) s ≡ playedState (recordsOf (drop (x .at) log)) (state (x .unit) m′)
-  rest-state = state-first (drop (g .at) log) s (drop-length-pos (g .at) log h) ∙ go (x .ended) (i .place) (i .step .ended)
+  rest-state : playedState (recordsOf (drop (g .at) log)) s ≡ playedState (recordsOf (drop (x .at) log)) (state (x .played .unit) m′)
+  rest-state = state-first (drop (g .at) log) s (drop-length-pos (g .at) log h) ∙ go (x .played .ended) (i .place) (i .step .ended)
     where
       go : (b : Bool) → x .at ≡ cond b (length log) (min (g .at + 4) (length log)) → b ≡ ends (playEntry e s)
-          → cond (ends (playEntry e s)) (playEntry e s .after) (playedState (recordsOf (drop 4 (drop (g .at) log))) (playEntry e s .after)) ≡ playedState (recordsOf (drop (x .at) log)) (state (x .unit) m′)
+          → cond (ends (playEntry e s)) (playEntry e s .after) (playedState (recordsOf (drop 4 (drop (g .at) log))) (playEntry e s .after)) ≡ playedState (recordsOf (drop (x .at) log)) (state (x .played .unit) m′)
       go true p z = rw (← z, gone p) (unfold recordsOf playedState in after)
       go false p z = rw (← z, behind p, after)
 
-  rest-ends : playEnds (recordsOf (drop (g .at) log)) s ≡ x .ended || playEnds (recordsOf (drop (x .at) log)) (state (x .unit) m′)
-  rest-ends = ends-first (drop (g .at) log) s (drop-length-pos (g .at) log h) ∙ go (x .ended) (i .place) (i .step .ended)
+  rest-ends : playEnds (recordsOf (drop (g .at) log)) s ≡ x .played .ended || playEnds (recordsOf (drop (x .at) log)) (state (x .played .unit) m′)
+  rest-ends = ends-first (drop (g .at) log) s (drop-length-pos (g .at) log h) ∙ go (x .played .ended) (i .place) (i .step .ended)
     where
       go : (b : Bool) → x .at ≡ cond b (length log) (min (g .at + 4) (length log)) → b ≡ ends (playEntry e s)
-          → ends (playEntry e s) || playEnds (recordsOf (drop 4 (drop (g .at) log))) (playEntry e s .after) ≡ b || playEnds (recordsOf (drop (x .at) log)) (state (x .unit) m′)
+          → ends (playEntry e s) || playEnds (recordsOf (drop 4 (drop (g .at) log))) (playEntry e s .after) ≡ b || playEnds (recordsOf (drop (x .at) log)) (state (x .played .unit) m′)
       go true p z = rw (← z)
       go false p z = rw (← z, behind p, after)
 
   -- places: a record further, or at the end
   pub next-falls : length log - x .at < length log - g .at
-  next-falls = go (x .ended) (i .place)
+  next-falls = go (x .played .ended) (i .place)
     where
       go : (b : Bool) → x .at ≡ cond b (length log) (min (g .at + 4) (length log)) → length log - x .at < length log - g .at
       go true p = omega (arith, p, h)
       go false p = omega (arith, p, h)
 
   next-place : x .at ≤ length log
-  next-place = go (x .ended) (i .place)
+  next-place = go (x .played .ended) (i .place)
     where
       go : (b : Bool) → x .at ≡ cond b (length log) (min (g .at + 4) (length log)) → x .at ≤ length log
       go true p = omega (arith, p)
       go false p = omega (arith, p)
 
-  next-over : x .ended ≡ true → length log ≤ x .at
+  next-over : x .played .ended ≡ true → length log ≤ x .at
   next-over z = let p : x .at ≡ length log = rw z at (i .place) in omega (arith, p)
 
-  next-room : x .written + 15 * ((length log - x .at + 3) / 4) ≤ length out₀
-  next-room = go (x .ended) (i .place)
+  next-room : x .played .written + 15 * ((length log - x .at + 3) / 4) ≤ length out₀
+  next-room = go (x .played .ended) (i .place)
     where
-      go : (b : Bool) → x .at ≡ cond b (length log) (min (g .at + 4) (length log)) → x .written + 15 * ((length log - x .at + 3) / 4) ≤ length out₀
+      go : (b : Bool) → x .at ≡ cond b (length log) (min (g .at + 4) (length log)) → x .played .written + 15 * ((length log - x .at + 3) / 4) ≤ length out₀
       go true p = omega (arith, p, h, y .room, i .step .written, short)
       go false p = omega (arith, p, h, y .room, i .step .written, short)
 
@@ -193,39 +193,39 @@ module _ (log out₀ : List ℕ) (s₀ : State) (g : Going) (m : Memory) (out : 
         lengths = same-then (y .lengths) (subst (λ (z : State). SameLengths m (z .memory)) after (entry-long e s));
         room = next-room;
         text =
-            y .text ∙ ap (λ (b : List ℕ). take w out ++ b) rest-text ∙ sym (append-assoc (take w out) t (playedText (recordsOf (drop (x .at) log)) (state (x .unit) m′)))
+            y .text ∙ ap (λ (b : List ℕ). take w out ++ b) rest-text ∙ sym (append-assoc (take w out) t (playedText (recordsOf (drop (x .at) log)) (state (x .played .unit) m′)))
             ∙ rw (i .step .written, stored-take out out′ t w fits (i .step .text));
         rest = rw (i .step .written) (stored-drop out out′ t w fits (i .step .text) ∙ rest-same);
         left = y .left ∙ rest-state;
         goes = y .goes ∙ rw open-still rest-ends;
       }
 
-pub play-done : (log out₀ : List ℕ) (s₀ : State) (g : Going) (m : Memory) (out : List ℕ) (x : Played) → Playing log out₀ s₀ g m out → length log ≤ g .at
-    → x ≡ record { unit = g .unit; written = g .written; ended = g .ended } → IsPlay log s₀ out₀ x m out
+pub play-done : (log out₀ : List ℕ) (s₀ : State) (g : Going) (m : Memory) (out : List ℕ) (x : Played) → Playing log out₀ s₀ g m out → length log ≤ g .at → x ≡ g .played
+    → IsPlay log s₀ out₀ x m out
 unfolding recordsOf playedText playedState playEnds
 play-done log out₀ s₀ g m out x y h k =
     let d : drop (g .at) log ≡ [] = drop-of-length-le log {i = g .at} h in
-    let text : playedText (recordsOf log) s₀ ≡ take (g .written) out = y .text ∙ rw d (append-nil (take (g .written) out)) in
+    let text : playedText (recordsOf log) s₀ ≡ take (g .played .written) out = y .text ∙ rw d (append-nil (take (g .played .written) out)) in
     rw k
     (record {
       after = sym (y .left ∙ rw d);
-      text = rw text (sym (take-append-drop (g .written) out) ∙ ap (λ (a : List ℕ). take (g .written) out ++ a) (y .rest));
-      written = rw text (sym (length-take-le (g .written) out (omega (arith, y .room, y .long))));
-      ended = sym (y .goes ∙ rw d (or-none (g .ended)));
+      text = rw text (sym (take-append-drop (g .played .written) out) ∙ ap (λ (a : List ℕ). take (g .played .written) out ++ a) (y .rest));
+      written = rw text (sym (length-take-le (g .played .written) out (omega (arith, y .room, y .long))));
+      ended = sym (y .goes ∙ rw d (or-none (g .played .ended)));
     })
   where
     or-none : (b : Bool) → b || false ≡ b
     or-none true = refl
     or-none false = refl
 
-pub play-room : (log out₀ : List ℕ) (s₀ : State) (g : Going) (m : Memory) (out : List ℕ) → Playing log out₀ s₀ g m out → g .at < length log → g .written + 15 ≤ length out
+pub play-room : (log out₀ : List ℕ) (s₀ : State) (g : Going) (m : Memory) (out : List ℕ) → Playing log out₀ s₀ g m out → g .at < length log → g .played .written + 15 ≤ length out
 play-room log out₀ s₀ g m out y h = omega (arith, y .room, y .long, h)
 
 pub next-done : (log : List ℕ) (f : Step) (g : Going) (m : Memory) (out : List ℕ) (m′ : Memory) (out′ : List ℕ) (x : Going) → f .found ≡ entryOf (recordsOf (drop (g .at) log))
     → f .next .at ≡ min (g .at + 4) (length log) → IsFound f g (length log) m out x m′ out′ → IsNext log g m out x m′ out′
 next-done log f g m out m′ out′ x e n i =
     record {
-      step = subst (λ (z : Entry). IsStep z (state (g .unit) m) out (g .written) (record { unit = x .unit; written = x .written; ended = x .ended }) m′ out′) e (i .step);
+      step = subst (λ (z : Entry). IsStep z (state (g .played .unit) m) out (g .played .written) (x .played) m′ out′) e (i .step);
       place = i .place ∙ rw n;
     }
 

@@ -21,13 +21,13 @@ pub record IsStep (e : Entry) (s : State) (out : List ℕ) (at : ℕ) (x : Playe
 
 -- what a reader found at a play's place, played: the play x after it, at the place behind that, or at the log's end where a refusal 5 ended it
 pub record IsFound (f : Step) (g : Going) (end : ℕ) (m : Memory) (out : List ℕ) (x : Going) (m′ : Memory) (out′ : List ℕ) : Type 0 where
-  pub step : IsStep (f .found) (state (g .unit) m) out (g .written) (record { unit = x .unit; written = x .written; ended = x .ended }) m′ out′
-  pub place : x .at ≡ cond (x .ended) end (f .next .at)
+  pub step : IsStep (f .found) (state (g .played .unit) m) out (g .played .written) (x .played) m′ out′
+  pub place : x .at ≡ cond (x .played .ended) end (f .next .at)
 
 -- the same of the record of a log at that place
 pub record IsNext (log : List ℕ) (g : Going) (m : Memory) (out : List ℕ) (x : Going) (m′ : Memory) (out′ : List ℕ) : Type 0 where
-  pub step : IsStep (entryOf (recordsOf (drop (g .at) log))) (state (g .unit) m) out (g .written) (record { unit = x .unit; written = x .written; ended = x .ended }) m′ out′
-  pub place : x .at ≡ cond (x .ended) (length log) (min (g .at + 4) (length log))
+  pub step : IsStep (entryOf (recordsOf (drop (g .at) log))) (state (g .played .unit) m) out (g .played .written) (x .played) m′ out′
+  pub place : x .at ≡ cond (x .played .ended) (length log) (min (g .at + 4) (length log))
 
 -- a log played from state s: the unit and the memory left, the text at the front of the output, and whether a refusal 5 ended it
 pub record IsPlay (log : List ℕ) (s : State) (out : List ℕ) (x : Played) (m : Memory) (out′ : List ℕ) : Type 0 where

@@ -25,12 +25,10 @@ pub struct Block {
     pub kept: usize,
 }
 
-// A play that goes on: the same, and the place of the next record, the log's end where none is played any more.
+// A play that goes on: the same so far, and the place of the next record, the log's end where none is played any more.
 pub struct Going {
-    pub unit: Ppu,
+    pub played: Played,
     pub at: usize,
-    pub written: usize,
-    pub ended: bool,
 }
 
 // An entry's call, and its text stored in the output from place `at` on.
@@ -86,17 +84,18 @@ fn play_found(
     line: &mut [u8],
     colours: &mut [u16],
 ) -> Going
-    requires { ⌜ g .written + 15 ≤ length (now out) ⌝ }
+    requires { ⌜ g .played .written + 15 ≤ length (now out) ⌝ }
     ensures { λ r. ⌜ IsFound s g end (lineMemory (now (left .entry)) (now (right .entry)) (now (nametables .entry)) (now (oam .entry)) (now (palette .entry)) (now (line .entry)) (now (colours .entry)))
         (now (out .entry)) r (lineMemory (now (left .exit)) (now (right .exit)) (now (nametables .exit)) (now (oam .exit)) (now (palette .exit)) (now (line .exit)) (now (colours .exit))) (now (out .exit)) ⌝ }
 {
     let e = s.found;
-    let u = g.unit;
-    let p = play_one(
+    let before = g.played;
+    let u = before.unit;
+    let played = play_one(
         e,
         u,
         out,
-        g.written,
+        before.written,
         left,
         right,
         nametables,
@@ -106,14 +105,8 @@ fn play_found(
         colours,
     );
     let next = s.next;
-    let at = place_after(p.ended, next.at, end);
-    let unit = p.unit;
-    Going {
-        unit,
-        at,
-        written: p.written,
-        ended: p.ended,
-    }
+    let at = place_after(played.ended, next.at, end);
+    Going { played, at }
 }
 
 // The record at the place of a play, played.
@@ -129,7 +122,7 @@ fn play_next(
     line: &mut [u8],
     colours: &mut [u16],
 ) -> Going
-    requires { ⌜ g .written + 15 ≤ length (now out) ⌝ }
+    requires { ⌜ g .played .written + 15 ≤ length (now out) ⌝ }
     ensures { λ r. ⌜ IsNext (now (log .entry)) g (lineMemory (now (left .entry)) (now (right .entry)) (now (nametables .entry)) (now (oam .entry)) (now (palette .entry)) (now (line .entry)) (now (colours .entry)))
         (now (out .entry)) r (lineMemory (now (left .exit)) (now (right .exit)) (now (nametables .exit)) (now (oam .exit)) (now (palette .exit)) (now (line .exit)) (now (colours .exit))) (now (out .exit)) ⌝ }
 {
@@ -166,12 +159,12 @@ pub fn play_log(
     ensures { λ r. ⌜ IsPlay (now (log .entry)) (state u (lineMemory (now (left .entry)) (now (right .entry)) (now (nametables .entry)) (now (oam .entry)) (now (palette .entry)) (now (line .entry)) (now (colours .entry))))
         (now (out .entry)) r (lineMemory (now (left .exit)) (now (right .exit)) (now (nametables .exit)) (now (oam .exit)) (now (palette .exit)) (now (line .exit)) (now (colours .exit))) (now (out .exit)) ⌝ }
 {
-    let mut g = Going {
+    let played = Played {
         unit: u,
-        at: 0,
         written: 0,
         ended: false,
     };
+    let mut g = Going { played, at: 0 };
     while g.at < log.len() {
         g = play_next(
             g,
@@ -186,12 +179,8 @@ pub fn play_log(
             colours,
         );
     }
-    let unit = g.unit;
-    Played {
-        unit,
-        written: g.written,
-        ended: g.ended,
-    }
+    let all = g.played;
+    all
 }
 
 // How many of the n bytes of a block can be played: whole records, and all where the log ends.

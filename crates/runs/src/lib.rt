@@ -158,7 +158,7 @@ pub fn run(
 // Just so many lines, with no early stop: a run of the log.
 pub fn run_all_bytes(
     u: Ppu,
-    lines: u16,
+    n: u16,
     left: &[u8],
     right: &[u8],
     nametables: &[u8],
@@ -168,7 +168,7 @@ pub fn run_all_bytes(
     colours: &mut [u8],
 ) -> Access
     ensures { λ r. ⌜ lineOutcome r (now (left .entry)) (now (right .entry)) (now (nametables .entry)) (now (oam .entry)) (now (palette .entry)) (now (line .exit)) (numbersOf (now (colours .exit))) ≡
-        onLent (runCall own 0 lines) (state u (lineMemory (now (left .entry)) (now (right .entry)) (now (nametables .entry)) (now (oam .entry)) (now (palette .entry)) (now (line .entry)) (numbersOf (now (colours .entry))))) ⌝ }
+        onLent (runCall own 0 n) (state u (lineMemory (now (left .entry)) (now (right .entry)) (now (nametables .entry)) (now (oam .entry)) (now (palette .entry)) (now (line .entry)) (numbersOf (now (colours .entry))))) ⌝ }
 {
     let board = u.board;
     let sized = refusals::line_sizes(
@@ -181,22 +181,12 @@ pub fn run_all_bytes(
         line.len(),
         memory_pairs::count(colours.len()),
     );
-    let n = refusals::plain_refusal(sized, u);
-    if n != 0 {
-        return unit::refused(n, u);
+    let k = refusals::plain_refusal(sized, u);
+    if k != 0 {
+        return unit::refused(k, u);
     }
-    let next = scanline::run_all(
-        u,
-        lines,
-        left,
-        right,
-        nametables,
-        oam,
-        palette,
-        line,
-        colours,
-    );
-    unit::done(0, lines, next)
+    let next = scanline::run_all(u, n, left, right, nametables, oam, palette, line, colours);
+    unit::done(0, n, next)
 }
 
 // The same, the colours as numbers.

@@ -11,7 +11,7 @@ use Rattle.log.proofs.play_next.Reads as play-next-reads
 
 abbrev Inv-loop : tie.InvT-loop
 Inv-loop log out₀ left₀ right₀ nametables₀ oam₀ palette₀ line₀ colours₀ g₀ out left right nametables oam palette line colours g =
-    Playing log out₀ (state (g₀ .unit) (lineMemory left₀ right₀ nametables₀ oam₀ palette₀ line₀ colours₀)) g (lineMemory left right nametables oam palette line colours) out
+    Playing log out₀ (state (g₀ .played .unit) (lineMemory left₀ right₀ nametables₀ oam₀ palette₀ line₀ colours₀)) g (lineMemory left right nametables oam palette line colours) out
 
 abbrev μ-loop : tie.MeasureT-loop
 μ-loop log out₀ left₀ right₀ nametables₀ oam₀ palette₀ line₀ colours₀ g₀ out left right nametables oam palette line colours g =
