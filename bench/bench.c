@@ -1,7 +1,7 @@
 /* Measures the calls of include/ppu.h and of the peer drawers on the same memory.
      bench time ROUNDS   ns, the least of so many rounds; in a round the drawers take turns
      bench count         does each piece of work once for each drawer, with a call of `mark` before each: for callgrind
-   First every piece of work is done by all drawers, and the program fails if two of them differ in a pixel, a record or a byte of memory. */
+   First all drawers do every piece of work, and the program fails if two of them differ in a pixel, a colour, a record or a byte of memory. */
 #define _POSIX_C_SOURCE 199309L
 #include <stdio.h>
 #include <stdlib.h>
@@ -11,9 +11,9 @@
 
 /* MEMORY, as a drawer's call is lent it */
 #define TABLES m.left, sizeof m.left, m.right, sizeof m.right, m.nametables, sizeof m.nametables, m.oam, sizeof m.oam
-#define LINE m.line, sizeof m.line
-#define UNIT m.unit, sizeof m.unit
 #define PALETTE m.palette, sizeof m.palette
+#define LINE m.line, sizeof m.line, m.colours, sizeof m.colours
+#define UNIT m.unit, sizeof m.unit
 
 /* PASSES: a pass does a piece of work by one drawer and gives the number of calls, or lines */
 typedef unsigned Pass(const Drawer *);
@@ -24,7 +24,18 @@ static unsigned draw_lines(const Drawer *d)
     for (; done < 240; done += lines) {
         memcpy(m.unit, start, sizeof start);
         for (unsigned i = 0; i < lines; i++)
-            d->line(UNIT, TABLES, LINE);
+            d->line(UNIT, TABLES, PALETTE, LINE);
+    }
+    return done;
+}
+
+/* the same in one call for all of a screen's lines */
+static unsigned draw_frames(const Drawer *d)
+{
+    unsigned done = 0;
+    for (; done < 240; done += lines) {
+        memcpy(m.unit, start, sizeof start);
+        d->run(UNIT, (uint16_t)lines, TABLES, PALETTE, LINE);
     }
     return done;
 }
@@ -35,7 +46,7 @@ static unsigned run_lines(const Drawer *d, unsigned n)
     unsigned all = n > 2620 ? n : 2620;
     memcpy(m.unit, start, sizeof start);
     for (unsigned done = 0; done < all; done += n)
-        d->run(UNIT, (uint16_t)n, TABLES, LINE);
+        d->run(UNIT, (uint16_t)n, TABLES, PALETTE, LINE);
     return all;
 }
 
@@ -47,7 +58,7 @@ static unsigned run_26200(const Drawer *d) { return run_lines(d, 26200); }
 static unsigned run_none(const Drawer *d)
 {
     for (int i = 0; i < 1000; i++)
-        d->run(UNIT, 0, TABLES, LINE);
+        d->run(UNIT, 0, TABLES, PALETTE, LINE);
     return 1000;
 }
 
@@ -56,7 +67,7 @@ static unsigned blank_lines(const Drawer *d)
     for (int i = 0; i < 50; i++) {
         set_word(m.unit, PPU_AT_NEXT_LINE, 242);
         for (int k = 0; k < 18; k++)
-            d->line(UNIT, TABLES, LINE);
+            d->line(UNIT, TABLES, PALETTE, LINE);
     }
     return 50 * 18;
 }
@@ -129,15 +140,18 @@ typedef struct {
     Pass *pass;
 } Work;
 
-static const Work screens[] = {
-    { "off", screen_off, draw_lines },
-    { "background only", background_only, draw_lines },
-    { "text", text, draw_lines },
-    { "about three sprites a line", three_sprites, draw_lines },
-    { "eight sprites a line", eight_sprites, draw_lines },
-    { "eight of 8x16 a line, flipped", tall_sprites, draw_lines },
-    { "random", random_screen, draw_lines },
-};
+#define ALL_SCREENS(pass) \
+    { "off", screen_off, pass }, \
+    { "off, backdrop override", backdrop_override, pass }, \
+    { "background only", background_only, pass }, \
+    { "text", text, pass }, \
+    { "about three sprites a line", three_sprites, pass }, \
+    { "eight sprites a line", eight_sprites, pass }, \
+    { "eight of 8x16 a line, flipped", tall_sprites, pass }, \
+    { "random", random_screen, pass }
+
+static const Work screens[] = { ALL_SCREENS(draw_lines) };
+static const Work frames[] = { ALL_SCREENS(draw_frames) };
 
 static const Work calls[] = {
     { "`ppu_run` of 0 lines", screen_off, run_none },
@@ -173,6 +187,7 @@ static void differ(const Work *w, const Drawer *d, unsigned line)
 static void agree(const Work *w)
 {
     static Machine before, after;
+    uint64_t answer = 0, given;
     unsigned steps = w->pass == draw_lines ? 240 : 1;
     w->set();
     memcpy(m.unit, start, sizeof start);
@@ -180,13 +195,11 @@ static void agree(const Work *w)
         before = m;
         for (int k = 0; k < DRAWERS; k++) {
             m = before;
-            if (w->pass == draw_lines)
-                drawers[k].line(UNIT, TABLES, LINE);
-            else
-                w->pass(&drawers[k]);
-            if (k == 0)
+            given = w->pass == draw_lines ? drawers[k].line(UNIT, TABLES, PALETTE, LINE) : w->pass(&drawers[k]);
+            if (k == 0) {
                 after = m;
-            else if (memcmp(&m, &after, sizeof m))
+                answer = given;
+            } else if (given != answer || memcmp(&m, &after, sizeof m))
                 differ(w, &drawers[k], i);
         }
     }
@@ -200,7 +213,7 @@ static void all_agree(const Work *work, int count)
 
 /* TIME */
 /* the least that each piece of work took */
-static double of_screens[SCREENS][DRAWERS], of_calls[CALLS][DRAWERS], of_runs[RUNS][DRAWERS];
+static double of_screens[SCREENS][DRAWERS], of_frames[SCREENS][DRAWERS], of_calls[CALLS][DRAWERS], of_runs[RUNS][DRAWERS];
 
 /* A long pass is timed by the processor time of this process, which leaves out what others took of it meanwhile. */
 static void time_rounds(const Work *work, int count, double (*into)[DRAWERS], int by, int rounds, clockid_t clock)
@@ -218,29 +231,34 @@ static void time_rounds(const Work *work, int count, double (*into)[DRAWERS], in
     }
 }
 
-static void heads(const char *first, const char *ours, int ratios)
+/* the peers that the archive is measured by: the plain ones are only shown */
+static int is_measure(int k) { return strncmp(drawers[k].name, "plain", 5) != 0; }
+
+static void heads(const char *ours)
 {
-    printf("| %s | %s |", first, ours);
+    printf("| screen | %s |", ours);
     for (int k = 1; k < DRAWERS; k++)
         printf(" %s |", drawers[k].name);
-    for (int k = 1; ratios && k < DRAWERS; k++)
-        printf(" / %s |", drawers[k].name);
-    printf("\n|---|");
-    for (int k = 0; k < (ratios ? 2 * DRAWERS - 1 : DRAWERS); k++)
-        printf("---|");
+    for (int k = 1; k < DRAWERS; k++)
+        if (is_measure(k))
+            printf(" / %s |", drawers[k].name);
+    printf("\n|---|---|");
+    for (int k = 1; k < DRAWERS; k++)
+        printf(is_measure(k) ? "---|---|" : "---|");
     printf("\n");
 }
 
-static void print_screens(double (*ns)[DRAWERS])
+static void print_screens(const char *title, const char *ours, double (*ns)[DRAWERS])
 {
-    printf("\nns a line, and the ratio of `ppu_line` to each peer\n\n");
-    heads("screen", "`ppu_line`", 1);
+    printf("\n%s\n\n", title);
+    heads(ours);
     for (int i = 0; i < SCREENS; i++) {
         printf("| %s |", screens[i].name);
         for (int k = 0; k < DRAWERS; k++)
             printf(k ? " %.0f |" : " **%.0f** |", ns[i][k]);
         for (int k = 1; k < DRAWERS; k++)
-            printf(" %.2f |", ns[i][0] / ns[i][k]);
+            if (is_measure(k))
+                printf(" %.2f |", ns[i][0] / ns[i][k]);
         printf("\n");
     }
 }
@@ -283,6 +301,7 @@ static void time_block(int block, int rounds)
     volatile char room[1 + 400 * block];
     (void)room;
     time_rounds(screens, SCREENS, of_screens, DRAWERS, rounds, CLOCK_MONOTONIC);
+    time_rounds(frames, SCREENS, of_frames, DRAWERS, rounds, CLOCK_MONOTONIC);
     time_rounds(calls, CALLS, of_calls, DRAWERS, rounds, CLOCK_MONOTONIC);
     time_rounds(runs, RUNS, of_runs, 1, 2 + rounds / 20, CLOCK_PROCESS_CPUTIME_ID);
 }
@@ -291,7 +310,8 @@ static void time_all(int rounds)
 {
     for (int block = 0; block < BLOCKS; block++)
         time_block(block, rounds / BLOCKS);
-    print_screens(of_screens);
+    print_screens("ns a line in runs of a frame, and the ratio of `ppu_run` to the peers", "`ppu_run`", of_frames);
+    print_screens("ns a line, one to a call, and the ratio of `ppu_line` to the peers", "`ppu_line`", of_screens);
     print_calls(of_calls);
     print_runs(of_runs);
 }
@@ -317,9 +337,11 @@ int main(int argc, char **argv)
     const char *mode = argc > 1 ? argv[1] : "";
     int rounds = argc > 2 ? atoi(argv[2]) : 0;
     all_agree(screens, SCREENS);
+    all_agree(frames, SCREENS);
     all_agree(calls, CALLS);
     all_agree(runs, RUNS - 1);
     if (!strcmp(mode, "count")) {
+        count_all("frame", frames, SCREENS, DRAWERS);
         count_all("screen", screens, SCREENS, DRAWERS);
         count_all("call", calls, CALLS, DRAWERS);
         count_all("run", runs, RUNS, 1);

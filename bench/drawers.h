@@ -5,16 +5,16 @@
 #include "ppu.h"
 
 typedef uint64_t Line(uint8_t *, size_t, const uint8_t *, size_t, const uint8_t *, size_t, const uint8_t *, size_t, const uint8_t *, size_t,
-                      uint8_t *, size_t);
+                      const uint8_t *, size_t, uint8_t *, size_t, uint8_t *, size_t);
 typedef uint64_t Run(uint8_t *, size_t, uint16_t, const uint8_t *, size_t, const uint8_t *, size_t, const uint8_t *, size_t,
-                     const uint8_t *, size_t, uint8_t *, size_t);
+                     const uint8_t *, size_t, const uint8_t *, size_t, uint8_t *, size_t, uint8_t *, size_t);
 typedef uint64_t Read(uint8_t *, size_t, uint16_t, const uint8_t *, size_t, const uint8_t *, size_t, const uint8_t *, size_t,
                       const uint8_t *, size_t, const uint8_t *, size_t);
 typedef uint64_t Write(uint8_t *, size_t, uint16_t, uint8_t, uint8_t *, size_t, uint8_t *, size_t, uint8_t *, size_t, uint8_t *, size_t,
                        uint8_t *, size_t);
 typedef uint64_t Dma(uint8_t *, size_t, uint8_t *, size_t, const uint8_t *, size_t);
 typedef uint64_t Play(uint8_t *, size_t, const uint8_t *, size_t, uint8_t *, size_t, uint8_t *, size_t, uint8_t *, size_t, uint8_t *, size_t,
-                      uint8_t *, size_t, uint8_t *, size_t);
+                      uint8_t *, size_t, uint8_t *, size_t, uint8_t *, size_t);
 
 typedef struct {
     const char *name;

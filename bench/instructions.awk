@@ -53,7 +53,8 @@ function table(which, first, title, by, i, k, head, rule, any) {
         }
 }
 END {
-    table("screen", "screen", "instructions a line", count)
+    table("frame", "screen", "instructions a line in runs of a frame", count)
+    table("screen", "screen", "instructions a line, one to a call", count)
     table("call", "call", "instructions a call", count)
     table("page", "call", "instructions a page", count)
     table("run", "lines a call", "instructions a line of `ppu_run`, pictures with about three sprites a line", 1)

@@ -1,6 +1,8 @@
-/* Two ordinary C line drawers to measure against, on the 16-byte record and by the calls of include/ppu.h: the background a tile at a time,
-   then a line of sprites, then one pass that merges them. Compiled twice: -DPFX=plain_ works out each pixel by itself with eight shifts a
-   tile; -DPFX=table_ -DSPREAD takes eight pixels at a time from a table of 256 words. They set the measure of speed, not of truth. */
+/* Line drawers to measure against, on the 16-byte record and by the calls of include/ppu.h. They set the measure of speed, not of truth.
+   Compiled three times. The first two are ordinary C: the background a tile at a time, then a line of sprites, then one pass that merges
+   them, then one that gives each pixel number its colour. -DPFX=plain_ works out each pixel by itself with eight shifts a tile, and colours
+   them one by one; -DPFX=table_ -DSPREAD takes eight pixels at a time from a table of 256 words, and stores four colours at a time.
+   -DPFX=sse2_ -DSSE2 is tuned by hand for plain x86-64: peer_sse2.h. */
 #include "peer.h"
 #include <string.h>
 static inline int ok_board(u8 b){ return b<16 && (b&7)<4; }
@@ -60,6 +62,15 @@ u64 ppu_dma(u8 *u,size_t un,u8 *o,size_t on,const u8 *g,size_t gn){
   u[11]=g[255]; return RET(u,0,0);
 }
 
+/* the unit after a drawn line: v one row down, with t's columns, and OAMADDR 0 */
+static inline void steps(u8 *u,int v){
+  if((v&0x7000)!=0x7000) v+=0x1000; else { v&=0xFFF; int y=v>>5&31; if(y==29) v=(v&~0x3E0)^0x800; else if(y==31) v&=~0x3E0; else v+=32; }
+  v=(v&~0x41F)|((u[6]|u[7]<<8)&0x41F); u[4]=v; u[5]=v>>8; u[3]=0;
+}
+
+#ifdef SSE2
+#include "peer_sse2.h"
+#else
 #ifdef SPREAD
 static u64 spread[256]; static int spread_ready;
 static void mkspread(void){ for(int i=0;i<256;i++){ u8 b[8]; for(int k=0;k<8;k++) b[k]=(i>>(7-k))&1; memcpy(&spread[i],b,8);} spread_ready=1; }
@@ -109,38 +120,66 @@ static void drawline(u8 *u,const u8 *l,const u8 *r,const u8 *nt,const u8 *o,u8 *
   }
   if(zero) u[2]|=64;
   if(over>8) u[2]|=32;
-  /* steps */
-  if((v&0x7000)!=0x7000) v+=0x1000; else { v&=0xFFF; int y=v>>5&31; if(y==29) v=(v&~0x3E0)^0x800; else if(y==31) v&=~0x3E0; else v+=32; }
-  v=(v&~0x41F)|((u[6]|u[7]<<8)&0x41F); u[4]=v; u[5]=v>>8; u[3]=0;
+  steps(u,v);
 }
-static inline void one(u8 *u,const u8 *l,const u8 *r,const u8 *nt,const u8 *o,u8 *line){
+/* Colours are looked up by pixel number. Of the ordinary ways with 32 entries gcc's fastest stores four at a time, two such stores a step:
+   58 ns a line alone, where one colour to a store takes 71, two 70, four in one step 62; clang's takes 61 so, and no other less. */
+#ifdef SPREAD
+static inline u64 two(const u16 *t,const u8 *p){ return t[p[0]]|(u32)t[p[1]]<<16; }
+static void colour(const u16 *t,const u8 *line,u8 *c){
+  for(int i=0;i<256;i+=8){
+    u64 a=two(t,line+i)|two(t,line+i+2)<<32, b=two(t,line+i+4)|two(t,line+i+6)<<32;
+    memcpy(c+2*i,&a,8); memcpy(c+2*i+8,&b,8); } }
+#else
+static void colour(const u16 *t,const u8 *line,u8 *c){ for(int i=0;i<256;i++) memcpy(c+2*i,&t[line[i]],2); }
+#endif
+static void blank(u8 *line,u8 *c,u16 n){
+  u64 w=n*0x0001000100010001u; memset(line,0,256); for(int i=0;i<512;i+=8) memcpy(c+i,&w,8); }
+#endif
+
+/* The table of colours by pixel number. A call makes it once, a single line as a run, and only if it draws. */
+static inline u16 shade(u8 mask,u8 byte){ return (byte&((mask&1)?0x30:0x3F))|(mask>>5)<<6; }
+static inline void mktable(u8 mask,const u8 *p,u16 *restrict t){
+  for(int i=0;i<32;i++) t[i]=shade(mask,p[i]);
+  t[16]=t[0]; t[20]=t[4]; t[24]=t[8]; t[28]=t[12]; }
+/* with the screen off all is cell 0, or the one at v from $3F00 on */
+static inline u16 backdrop(const u8 *u,const u8 *p){ int a=(u[4]|u[5]<<8)&0x3FFF; return shade(u[1],p[a<0x3F00?0:pcell(a)]); }
+static inline void one(u8 *u,const u8 *l,const u8 *r,const u8 *nt,const u8 *o,const u8 *p,const u16 *t,u8 *line,u8 *c){
   int L=u[12]|u[13]<<8;
-  if(L<240){ if(u[1]&0x18) drawline(u,l,r,nt,o,line); else memset(line,0,256); }
+  if(L<240){ if(u[1]&0x18){ drawline(u,l,r,nt,o,line); colour(t,line,c); } else blank(line,c,backdrop(u,p)); }
   else if(L==241) u[2]|=128;
   else if(L==261){ u[2]=0; u[14]=1; if(u[1]&0x18){ u[4]=u[6]; u[5]=u[7]; u[3]=0; } }
   L= L==261?0:L+1; u[12]=L; u[13]=L>>8;
 }
-u64 ppu_line(u8 *u,size_t un,const u8 *l,size_t ln,const u8 *r,size_t rn,const u8 *n,size_t nn,const u8 *o,size_t on,u8 *b,size_t bn){
-  if(un!=16||ln!=4096||rn!=4096||nn!=2048||on!=256||bn!=256) return 2;
+#define BAD_LENGTH un!=16||ln!=4096||rn!=4096||nn!=2048||on!=256||pn!=32||bn!=256||cn!=512
+u64 ppu_line(u8 *u,size_t un,const u8 *l,size_t ln,const u8 *r,size_t rn,const u8 *n,size_t nn,const u8 *o,size_t on,const u8 *p,size_t pn,
+             u8 *b,size_t bn,u8 *c,size_t cn){
+  u16 t[32];
+  if(BAD_LENGTH) return 2;
   if(!ok(u)) return 3;
-  one(u,l,r,n,o,b); return RET(u,0,1);
+  if((u[1]&0x18)&&(u[12]|u[13]<<8)<240) mktable(u[1],p,t);
+  one(u,l,r,n,o,p,t,b,c); return RET(u,0,1);
 }
-u64 ppu_run(u8 *u,size_t un,u16 lines,const u8 *l,size_t ln,const u8 *r,size_t rn,const u8 *n,size_t nn,const u8 *o,size_t on,u8 *b,size_t bn){
-  u32 k=0, m=lines;
-  if(un!=16||ln!=4096||rn!=4096||nn!=2048||on!=256||bn!=256) return 2;
+static inline void lines(u8 *u,u32 m,const u8 *l,const u8 *r,const u8 *n,const u8 *o,const u8 *p,u8 *b,u8 *c){
+  u16 t[32];
+  if(u[1]&0x18) mktable(u[1],p,t);
+  while(m--) one(u,l,r,n,o,p,t,b,c);
+}
+u64 ppu_run(u8 *u,size_t un,u16 m,const u8 *l,size_t ln,const u8 *r,size_t rn,const u8 *n,size_t nn,const u8 *o,size_t on,const u8 *p,size_t pn,
+            u8 *b,size_t bn,u8 *c,size_t cn){
+  if(BAD_LENGTH) return 2;
   if(!ok(u)) return 3;
-  if(u[0]&128){ int p=u[12]|u[13]<<8; u32 f=(u32)((241-p+262)%262)+1; if(f<m) m=f; }
-  for(;k<m;k++) one(u,l,r,n,o,b);
-  return RET(u,0,k);
+  if(u[0]&128){ int f=(241-(u[12]|u[13]<<8)+262)%262+1; if(f<m) m=f; }
+  lines(u,m,l,r,n,o,p,b,c); return RET(u,0,m);
 }
-u64 ppu_play(u8 *u,size_t un,const u8 *g,size_t gn,u8 *l,size_t ln,u8 *r,size_t rn,u8 *n,size_t nn,u8 *o,size_t on,u8 *p,size_t pn,u8 *b,size_t bn){
-  u32 k,m;
+u64 ppu_play(u8 *u,size_t un,const u8 *g,size_t gn,u8 *l,size_t ln,u8 *r,size_t rn,u8 *n,size_t nn,u8 *o,size_t on,u8 *p,size_t pn,
+             u8 *b,size_t bn,u8 *c,size_t cn){
+  u16 m;
   if(gn<4||g[0]>2||(g[0]!=1&&g[3])) return 5;
-  m=(u32)g[1]<<8|g[2];
-  if(g[0]==0) return ppu_read(u,un,(u16)m,l,ln,r,rn,n,nn,o,on,p,pn);
-  if(g[0]==1) return ppu_write(u,un,(u16)m,g[3],l,ln,r,rn,n,nn,o,on,p,pn);
-  if(un!=16||ln!=4096||rn!=4096||nn!=2048||on!=256||bn!=256) return 2;
+  m=g[1]<<8|g[2];
+  if(g[0]==0) return ppu_read(u,un,m,l,ln,r,rn,n,nn,o,on,p,pn);
+  if(g[0]==1) return ppu_write(u,un,m,g[3],l,ln,r,rn,n,nn,o,on,p,pn);
+  if(BAD_LENGTH) return 2;
   if(!ok(u)) return 3;
-  for(k=0;k<m;k++) one(u,l,r,n,o,b);
-  return RET(u,0,m);
+  lines(u,m,l,r,n,o,p,b,c); return RET(u,0,m);
 }

@@ -1,4 +1,4 @@
-/* The memory that the calls are lent, and the seven kinds of screen. A screen is memory, the record before its first line, and how many lines
+/* The memory that the calls are lent, and the eight kinds of screen. A screen is memory, the record before its first line, and how many lines
    are drawn from there: those on which the sprites are as its name says. */
 #ifndef SCREENS_H
 #define SCREENS_H
@@ -10,7 +10,7 @@
 
 typedef struct {
     uint8_t left[PPU_PATTERN_LENGTH], right[PPU_PATTERN_LENGTH], nametables[PPU_NAMETABLE_LENGTH], oam[PPU_OAM_LENGTH];
-    uint8_t page[PPU_PAGE_LENGTH], line[PPU_LINE_LENGTH], palette[PPU_PALETTE_LENGTH], unit[PPU_RECORD_LENGTH];
+    uint8_t page[PPU_PAGE_LENGTH], line[PPU_LINE_LENGTH], colours[PPU_COLOURS_LENGTH], palette[PPU_PALETTE_LENGTH], unit[PPU_RECORD_LENGTH];
 } Machine;
 
 static _Alignas(64) Machine m;
@@ -54,6 +54,13 @@ static void set_sprite(int i, unsigned y, unsigned attribute, unsigned x)
 
 static void screen_off(void) { set_screen(0x10, 0x00, 0, 240); }
 
+/* v is at a mirror in the palette, and the one colour is emphasised */
+static void backdrop_override(void)
+{
+    set_screen(0x10, 0x40, 0, 240);
+    set_word(start, PPU_AT_V, 0x3F18);
+}
+
 static void background_only(void) { set_screen(0x10, 0x0A, 0, 240); }
 
 /* letters of one colour on an empty ground, one palette, no scroll; sprites are on and none is on the screen */
@@ -94,10 +101,10 @@ static void tall_sprites(void)
         set_sprite(i, 80 + 16 * (unsigned)(i / 8), any(4) + 32 * any(8), any(256));
 }
 
-/* scattered sprites too, and a unit that could be any */
+/* scattered sprites too, a unit that could be any, and all in emphasised greys */
 static void random_screen(void)
 {
-    set_screen(0x08, 0x1E, 0, 240);
+    set_screen(0x08, 0xBF, 0, 240);
     scatter(m.oam, sizeof m.oam);
     set_word(start, PPU_AT_V, any(0x8000));
     set_word(start, PPU_AT_T, any(0x8000));

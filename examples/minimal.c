@@ -1,4 +1,4 @@
-/* The smallest whole use of the picture unit: three diamonds are written through the ports, a picture is drawn, its corner is printed.
+/* The smallest whole use of the picture unit: three diamonds are written through the ports, the top of the picture is drawn and printed.
    After `make install`: cc examples/minimal.c $(pkg-config --cflags --libs ppu) -o minimal && ./minimal */
 #include <ppu.h>
 #include <stdio.h>
@@ -6,7 +6,7 @@
 
 /* The unit and all its memory are the caller's; each call is lent what it needs. Static memory begins as zeros. */
 static uint8_t unit[PPU_RECORD_LENGTH], left[PPU_PATTERN_LENGTH], right[PPU_PATTERN_LENGTH], nametables[PPU_NAMETABLE_LENGTH];
-static uint8_t oam[PPU_OAM_LENGTH], palette[PPU_PALETTE_LENGTH], line[PPU_LINE_LENGTH];
+static uint8_t oam[PPU_OAM_LENGTH], palette[PPU_PALETTE_LENGTH], line[PPU_LINE_LENGTH], colours[PPU_COLOURS_LENGTH];
 
 /* Every answer is looked at: a refused call has changed nothing, and its number says why. */
 static void check(const char *call, uint64_t answer)
@@ -33,27 +33,31 @@ static void store(uint16_t address, const uint8_t *bytes, size_t count)
 
 static void run(uint16_t lines)
 {
-    check("run", ppu_run(unit, sizeof unit, lines, left, sizeof left, right, sizeof right, nametables, sizeof nametables, oam, sizeof oam, line, sizeof line));
+    check("run", ppu_run(unit, sizeof unit, lines, left, sizeof left, right, sizeof right, nametables, sizeof nametables, oam, sizeof oam,
+                         palette, sizeof palette, line, sizeof line, colours, sizeof colours));
 }
 
 int main(void)
 {
-    static const uint8_t colours[] = { 0x0F, 0x16, 0x27, 0x30 }, row[] = { 1, 0, 1, 0, 1 };
+    static const uint8_t cells[] = { 0x0F, 0x16, 0x27, 0x30 }, row[] = { 1, 0, 1, 0, 1 };
     static const uint8_t diamond[] = { 0x18, 0x24, 0x5A, 0xBD, 0xBD, 0x5A, 0x24, 0x18, 0x00, 0x18, 0x3C, 0x7E, 0x7E, 0x3C, 0x18, 0x00 };
     check("fresh", ppu_fresh(unit, sizeof unit, PPU_VERTICAL | PPU_WRITABLE));
     run(262 + 242); /* a whole picture, which warms the unit up, then to the vertical blank, when memory may be written */
-    store(0x3F00, colours, sizeof colours);
+    store(0x3F00, cells, sizeof cells);
     store(0x0000 + 16 * 1, diamond, sizeof diamond); /* tile 1 of the left pattern table */
     store(0x2000 + 32 * 1 + 1, row, sizeof row);     /* the nametable's row 1, from column 1 */
     write_port(0x2005, 3);                           /* scroll: 3 pixels from the left, 2 from the top */
     write_port(0x2005, 2);
-    write_port(0x2001, 0x0A); /* mask: background, in the left column too */
+    write_port(0x2001, 0x2A); /* mask: background, in the left column too, with red emphasised */
     run(20);                  /* to the top of the picture */
-    for (int y = 0; y < 240; y++) {
+    for (int y = 0; y < 16; y++) {
         check("line", ppu_line(unit, sizeof unit, left, sizeof left, right, sizeof right, nametables, sizeof nametables, oam, sizeof oam,
-                               line, sizeof line));
-        for (int x = 0; x < 56 && y < 16; x++) /* line[x] is a palette cell; a colour's bits 5 and 4 are its brightness */
-            printf("%c%s", " .+#"[palette[line[x]] >> 4], x == 55 ? "\n" : "");
+                               palette, sizeof palette, line, sizeof line, colours, sizeof colours));
+        for (unsigned x = 0; x < 56; x++) /* line[x] is a pixel number: here one of the four cells that were stored */
+            printf("%c", " .+#"[line[x]]);
+        for (unsigned x = 5; x < 13; x++) /* its finished colour, of the first diamond alone: the cell's byte, and $40 for red */
+            printf(" %03X", ppu_colour(colours, x));
+        printf("\n");
     }
     return 0;
 }

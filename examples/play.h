@@ -12,7 +12,7 @@ enum { PICTURE_WIDTH = PPU_LINE_LENGTH, PICTURE_HEIGHT = 240 };
 
 typedef struct {
     uint8_t unit[PPU_RECORD_LENGTH], left[PPU_PATTERN_LENGTH], right[PPU_PATTERN_LENGTH], nametables[PPU_NAMETABLE_LENGTH];
-    uint8_t oam[PPU_OAM_LENGTH], palette[PPU_PALETTE_LENGTH], line[PPU_LINE_LENGTH];
+    uint8_t oam[PPU_OAM_LENGTH], palette[PPU_PALETTE_LENGTH], line[PPU_LINE_LENGTH], colours[PPU_COLOURS_LENGTH];
     const uint8_t *log;
     size_t length;                 /* of the log, in bytes */
     size_t records;                /* those begun; the last of them is `record`, filled up with zeros if it is cut short */
@@ -22,7 +22,7 @@ typedef struct {
     unsigned refusal;              /* the number of the last refusal, 0 if there was none, */
     size_t refused;                /* and which record it was, counted from 1 */
     unsigned long pictures;        /* drawn whole */
-    uint8_t picture[PICTURE_HEIGHT][PICTURE_WIDTH]; /* colours 0 to 63 */
+    uint16_t picture[PICTURE_HEIGHT][PICTURE_WIDTH]; /* finished colours, 0 to 511 */
 } Play;
 
 static inline unsigned play_word(const Play *p, int at) { return p->unit[at] + 256u * p->unit[at + 1]; }
@@ -53,7 +53,7 @@ static inline void play_start(Play *p, const uint8_t *log, size_t length)
 }
 
 /* The next record, played whole by the library: it knows what a record asks for. A run is then taken back, so that play_line can go through
-   its lines one at a time: it has changed nothing but the unit's record and the line buffer, which the lines fill again. */
+   its lines one at a time: it has changed nothing but the unit's record and the line's two buffers, which the lines fill again. */
 static inline void play_record(Play *p)
 {
     size_t at = p->records++ * PPU_LOG_RECORD_LENGTH, rest = p->length - at;
@@ -62,18 +62,11 @@ static inline void play_record(Play *p)
     memcpy(p->record, p->log + at, rest < sizeof p->record ? rest : sizeof p->record);
     memcpy(before, p->unit, sizeof before);
     play_answer(p, ppu_play(p->unit, sizeof p->unit, p->log + at, rest, p->left, sizeof p->left, p->right, sizeof p->right, p->nametables,
-                            sizeof p->nametables, p->oam, sizeof p->oam, p->palette, sizeof p->palette, p->line, sizeof p->line));
+                            sizeof p->nametables, p->oam, sizeof p->oam, p->palette, sizeof p->palette, p->line, sizeof p->line, p->colours,
+                            sizeof p->colours));
     p->lines_left = ppu_lines(p->answer);
     if (p->lines_left)
         memcpy(p->unit, before, sizeof before);
-}
-
-/* A line's colours are looked up at once: the palette and the mask may change before the next line. Mask bit 0 leaves only the greys. */
-static inline void play_colours(Play *p, unsigned y)
-{
-    unsigned kept = p->unit[PPU_AT_MASK] & 1 ? 0x30 : 0x3F;
-    for (int x = 0; x < PICTURE_WIDTH; x++)
-        p->picture[y][x] = (uint8_t)(p->palette[p->line[x]] & kept);
 }
 
 /* The log up to the end of one more line; 0 if it has ended before that. */
@@ -86,9 +79,11 @@ static inline int play_line(Play *p)
     unsigned y = play_word(p, PPU_AT_NEXT_LINE);
     p->lines_left--;
     play_answer(p, ppu_line(p->unit, sizeof p->unit, p->left, sizeof p->left, p->right, sizeof p->right, p->nametables,
-                            sizeof p->nametables, p->oam, sizeof p->oam, p->line, sizeof p->line));
+                            sizeof p->nametables, p->oam, sizeof p->oam, p->palette, sizeof p->palette, p->line, sizeof p->line,
+                            p->colours, sizeof p->colours));
     if (y < PICTURE_HEIGHT)
-        play_colours(p, y);
+        for (unsigned x = 0; x < PICTURE_WIDTH; x++)
+            p->picture[y][x] = (uint16_t)ppu_colour(p->colours, x);
     p->pictures += y == PICTURE_HEIGHT - 1;
     return 1;
 }

@@ -4,6 +4,7 @@
 
 #include <stdarg.h>
 #include <stdio.h>
+#include "colours.h"
 #include "font.h"
 #include "play.h"
 
@@ -13,24 +14,8 @@ enum { BACKDROP = 0x24272E, QUIET = 0x8A93A6, PLAIN = 0xE8EAF0, LIVELY = 0xFFC85
 
 typedef struct {
     uint32_t pixels[SCREEN_HEIGHT][SCREEN_WIDTH];
-    uint32_t colours[64]; /* of the picture */
+    uint8_t rgb[PALETTE_FILE_LENGTH]; /* the colours of the picture */
 } Screen;
-
-/* The built-in colours are reckoned, not measured: the low four bits of a colour are its hue, the high two its brightness, which swings
-   between `low` and `high`. Red is strongest at hue 6, green at 10, blue at 2, and each follows a cosine. Hue 0 is light, 13 dark grey. */
-static inline uint32_t screen_colour(int colour)
-{
-    static const int low[4] = { 0, 0, 79, 184 }, high[4] = { 102, 173, 255, 255 }, peak[3] = { 6, 10, 2 };
-    static const int cosine[12] = { 256, 222, 128, 0, -128, -222, -256, -222, -128, 0, 128, 222 }; /* x 256, in steps of 30 degrees */
-    int hue = colour % 16, row = colour / 16;
-    uint32_t rgb = 0;
-    for (int i = 0; i < 3; i++) {
-        int swing = cosine[(hue + 12 - peak[i]) % 12] * (high[row] - low[row]) / 512, middle = (low[row] + high[row]) / 2;
-        int level = hue == 0 ? high[row] : hue <= 12 ? middle + swing : hue == 13 ? low[row] : 0;
-        rgb = rgb << 8 | (uint32_t)(level < 0 ? 0 : level);
-    }
-    return rgb;
-}
 
 /* Text from this column and row of the panel on; what does not fit is left out. */
 static inline void screen_text(Screen *s, int column, int row, uint32_t colour, const char *format, ...)
@@ -61,7 +46,8 @@ static inline void screen_picture(Screen *s, const Play *p)
     int next = (int)play_word(p, PPU_AT_NEXT_LINE), within = next > 0 && next < PICTURE_HEIGHT;
     for (int y = 0; y < PICTURE_HEIGHT; y++)
         for (int x = 0; x < PICTURE_WIDTH; x++) {
-            uint32_t rgb = s->colours[p->picture[y][x]];
+            const uint8_t *parts = s->rgb + 3 * p->picture[y][x];
+            uint32_t rgb = (uint32_t)parts[0] << 16 | (uint32_t)parts[1] << 8 | parts[2];
             s->pixels[MARGIN + y][MARGIN + x] = within && y >= next ? rgb >> 1 & 0x7F7F7F : rgb;
         }
     if (within)

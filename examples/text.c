@@ -6,7 +6,7 @@
 #include <string.h>
 
 static uint8_t unit[PPU_RECORD_LENGTH], left[PPU_PATTERN_LENGTH], right[PPU_PATTERN_LENGTH], nametables[PPU_NAMETABLE_LENGTH];
-static uint8_t oam[PPU_OAM_LENGTH], palette[PPU_PALETTE_LENGTH], line[PPU_LINE_LENGTH];
+static uint8_t oam[PPU_OAM_LENGTH], palette[PPU_PALETTE_LENGTH], line[PPU_LINE_LENGTH], colours[PPU_COLOURS_LENGTH];
 
 /* Byte t is the character of tile t: here tiles 0 to 12, as examples/picture.log has them. The others have none, and show as spaces. */
 static const uint8_t table[PPU_TABLE_LENGTH] = "  02BCEHILMOS";
@@ -26,7 +26,7 @@ static void play(FILE *log)
     check("fresh", ppu_fresh(unit, sizeof unit, PPU_VERTICAL | PPU_WRITABLE));
     while ((length = fread(record, 1, sizeof record, log)) > 0)
         check("play", ppu_play(unit, sizeof unit, record, length, left, sizeof left, right, sizeof right, nametables, sizeof nametables,
-                               oam, sizeof oam, palette, sizeof palette, line, sizeof line));
+                               oam, sizeof oam, palette, sizeof palette, line, sizeof line, colours, sizeof colours));
 }
 
 int main(void)

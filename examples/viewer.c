@@ -8,11 +8,11 @@
 #include <stdlib.h>
 #include "screen.h"
 
-enum { PICTURES_A_SECOND = 60, MOST_SCALE = 16, PALETTE_FILE_LENGTH = 3 * 64, BAD_USE = 2 };
+enum { PICTURES_A_SECOND = 60, MOST_SCALE = 16, BAD_USE = 2 };
 
 static const char usage[] = "usage: viewer [--scale N] [--palette FILE] [--paused] [--until-picture N] LOG\n"
                             "  --scale N          the window's size at first, 1 to 16 times; 2 if not said\n"
-                            "  --palette FILE     64 colours of 3 bytes, red, green, blue\n"
+                            "  --palette FILE     64 colours of 3 bytes, red, green, blue, or 512, 64 for each emphasis, none first\n"
                             "  --paused           waits before the first record\n"
                             "  --until-picture N  plays N pictures, then pauses\n"
                             "keys: space plays or pauses; n or Right goes on by a picture, l or Down by a line; r starts again;\n"
@@ -106,18 +106,15 @@ static uint8_t *read_file(const char *name, size_t *length)
 
 static void set_colours(Screen *s, const char *palette)
 {
-    for (int i = 0; i < 64; i++)
-        s->colours[i] = screen_colour(i);
+    colours_set(s->rgb, colours_2c02, sizeof colours_2c02);
     if (!palette)
         return;
     char why[120];
     size_t length;
     uint8_t *bytes = read_file(palette, &length);
-    snprintf(why, sizeof why, "%lu bytes; a palette has %d", (unsigned long)length, PALETTE_FILE_LENGTH);
-    if (length != PALETTE_FILE_LENGTH)
+    snprintf(why, sizeof why, "%lu bytes; a palette has %d or %d", (unsigned long)length, SHORT_PALETTE_FILE_LENGTH, PALETTE_FILE_LENGTH);
+    if (!colours_set(s->rgb, bytes, length))
         fail(palette, why);
-    for (int i = 0; i < 64; i++)
-        s->colours[i] = (uint32_t)bytes[3 * i] << 16 | (uint32_t)bytes[3 * i + 1] << 8 | bytes[3 * i + 2];
     free(bytes);
 }
 

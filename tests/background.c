@@ -174,7 +174,7 @@ static void rows_30_and_31(void)
                 set_word(m.unit, PPU_AT_V, v);
                 set_word(m.unit, PPU_AT_T, page * 1024);
                 for (unsigned p = 0; p < 256; p++) {
-                    unsigned colour = colours[0][bytes[32 * row + p / 8]][y][p % 8];
+                    unsigned colour = tile_colours[0][bytes[32 * row + p / 8]][y][p % 8];
                     unsigned palette = bytes[960 + 56 + p / 32] / (p % 32 < 16 ? 16 : 64) % 4;
                     wanted[p] = (uint8_t)(colour ? 4 * palette + colour : 0);
                 }

@@ -86,7 +86,7 @@ test_packages() {
 }
 
 test_minimal() {
-    [ "$(wc -l <examples/minimal.c)" -lt 60 ] || fail "examples/minimal.c is no longer short"
+    [ "$(wc -l <examples/minimal.c)" -lt 64 ] || fail "examples/minimal.c is no longer short"
     local compiler
     look minimal >"$out/wanted"
     for compiler in "${compilers[@]}"; do
@@ -143,17 +143,16 @@ refuses() {
 
 test_bad_words() {
     local refused=0 log=examples/paper.log
-    head -c 191 "$out/palette" >"$out/short"
-    cat "$out/palette" "$out/palette" >"$out/double"
     refuses "no log"
     refuses "$out/none: No such file" "$out/none"
     refuses "$out: Is a directory" "$out"
     refuses "$out/none: No such file" --palette "$out/none" "$log"
-    refuses "$out/short: 191 bytes; a palette has 192" --palette "$out/short" "$log"
-    refuses "$out/double: 384 bytes; a palette has 192" --palette "$out/double" "$log"
-    refuses "/dev/null: 0 bytes; a palette has 192" --palette /dev/null "$log"
+    local length scale
+    for length in 0 191 193 384 1535 1537; do
+        head -c "$length" /dev/zero >"$out/wrong"
+        refuses "$out/wrong: $length bytes; a palette has 192 or 1536" --palette "$out/wrong" "$log"
+    done
     refuses "--palette: a file is wanted" "$log" --palette
-    local scale
     for scale in 0 17 -1 2x 99999999999999999999 ""; do
         refuses "--scale: a number from 1 to 16" --scale "$scale" "$log"
     done
@@ -233,6 +232,7 @@ test_keys() {
     start "${compilers[0]}" --until-picture 3 "$root/examples/picture.log"
     title "picture.log: picture 3, paused before line 240"
     look "$job" "$(place)" "$stored/paused.png"
+    look picture "$(place)" examples/2c02.pal 240
     keys n
     title "picture.log: picture 4, paused before line 240"
     keys Right
@@ -257,8 +257,19 @@ test_keys() {
     say "the viewer's keys n, Right, l, Down, r, s, q; its screen is tests/viewer/paused.png and, within a picture, within.png (${job})"
 }
 
-# The picture against a reckoning, in the colours of a file, in greys, within a picture, and in a window of another size. It is the third:
-# the log has run no line 261 between its last address and the second picture, which therefore begins at that address.
+# The third picture of a log, in a file's colours, against the reckoning with this mask: third LOG PALETTE MASK
+third() {
+    start "${compilers[-1]}" --paused --scale 1 --palette "$2" "$out/$1"
+    title "$1: picture 0, paused before line 0"
+    keys n n n
+    title "$1: picture 3, paused before line 240"
+    look picture "$(place)" "$2" 240 "$3"
+    quit q
+}
+
+# The picture against a reckoning, in the colours of a file, within a picture, and in a window of another size; in greys and with emphasis, which
+# 64 colours and 512 show. It is the third: the log has run no line 261 between its last address and the second picture, which therefore begins
+# at that address.
 test_pictures() {
     start "${compilers[-1]}" --scale 1 --palette "$out/palette" --until-picture 3 "$root/examples/picture.log"
     title "picture.log: picture 3, paused before line 240"
@@ -271,13 +282,24 @@ test_pictures() {
     title "picture.log: picture 3, paused before line 101"
     look picture "$(place)" "$out/palette" 101
     quit Escape
-    start "${compilers[-1]}" --paused --scale 1 --palette "$out/palette" "$out/grey.log"
-    title "grey.log: picture 0, paused before line 0"
-    keys n n n
-    title "grey.log: picture 3, paused before line 240"
-    look picture "$(place)" "$out/palette" 240 grey
+    third grey.log "$out/palette" 1F
+    third emphasis.log "$out/palette" BE
+    third emphasis.log "$out/all.pal" BE
+    say "the viewer's picture is the reckoned one: in a file's colours, after 100 lines of it, at twice its size, in greys, with emphasis"
+}
+
+# Four pictures of a capture against the emulator's finished colours: with emphasis, then in greyscale, by backdrop override, and so in greyscale.
+test_capture() {
+    local k
+    start "${compilers[0]}" --scale 1 --palette "$out/all.pal" --until-picture 52 "$out/ports_w1.log"
+    for k in 51 52 53 54; do
+        title "ports_w1.log: picture $((k + 1)), paused before line 240"
+        keys n
+        title "ports_w1.log: picture $((k + 2)), paused before line 240"
+        look capture "$(place)" "$out/all.pal" ports_w1 "$k"
+    done
     quit q
-    say "the viewer's picture is the reckoned one: in a file's colours, after 100 lines of it, at twice its size, in greys"
+    say "the viewer shows the emulator's finished colours: emphasis, greyscale and backdrop override of a capture"
 }
 
 # 60 pictures a second, and the space bar
@@ -349,6 +371,7 @@ test_viewer() {
     start_server
     test_keys
     test_pictures
+    test_capture
     test_time
     test_panel
 }

@@ -1,4 +1,4 @@
-/* What each of the 262 lines does to the record, the line buffer and the rest of memory. */
+/* What each of the 262 lines does to the record, the buffers of a line and the rest of memory. */
 #include "picture.h"
 
 static Machine m, wanted;
@@ -12,7 +12,7 @@ static void begin(unsigned control, unsigned mask, unsigned status, unsigned lin
     m.unit[PPU_AT_MASK] = (uint8_t)mask;
     m.unit[PPU_AT_STATUS] = (uint8_t)status;
     set_word(m.unit, PPU_AT_NEXT_LINE, line);
-    memset(m.line, 0xAA, 256);
+    spoil_line(&m);
     copy(&wanted, &m);
     set_word(wanted.unit, PPU_AT_NEXT_LINE, line == 261 ? 0 : line + 1);
 }
@@ -36,17 +36,23 @@ static void scene(void)
         m.oam[4 * i] = 250;
 }
 
-/* mask bits 3 and 4 clear: zeros, and next line rises; no other byte changes, whatever the other mask bits are */
+/* mask bits 3 and 4 clear: zeros and their colour, and next line rises; no other byte changes, whatever the other mask bits are and with v in
+   the palette too */
 static void switched_off(void)
 {
     for (unsigned line = 0; line < 240; line++)
         for (unsigned n = 0; n < 8; n++) {
             at = line;
             begin(n & 1 ? 0xFF : 0, n & 2 ? 0xE7 : 0, n & 4 ? 0xE0 : 0, line);
+            if (line % 2) {
+                set_word(m.unit, PPU_AT_V, 0x3F00 + line);
+                set_word(wanted.unit, PPU_AT_V, 0x3F00 + line);
+            }
             memset(wanted.line, 0, 256);
+            colour_line(&wanted, &m);
             expect_line();
         }
-    part("lines 0 to 239 switched off: 256 zeros, and only next line changes");
+    part("lines 0 to 239 switched off: 256 zeros and their colour, and only next line changes");
 }
 
 /* v = $3546 is fine y 3, nametable 1, row 10, column 6; t = $0A39 gives bit 10 = 0 and column 25: then $4159 */
@@ -57,6 +63,7 @@ static void switched_on(void)
             at = line;
             begin(line % 2 ? 0x80 : 0x3F, mask, line % 3 ? 0xE0 : 0, line);
             memset(wanted.line, 0, 256);
+            colour_line(&wanted, &m);
             set_word(wanted.unit, PPU_AT_V, 0x4159);
             wanted.unit[PPU_AT_OAMADDR] = 0;
             expect_line();
@@ -64,7 +71,7 @@ static void switched_on(void)
     part("lines 0 to 239 switched on: v one row down with t's sides, OAMADDR 0, next line; nothing else");
 }
 
-/* lines 240 to 260 do nothing but set status bit 7 in 241; the line buffer stays */
+/* lines 240 to 260 do nothing but set status bit 7 in 241; both buffers of a line stay */
 static void blank_lines(void)
 {
     for (unsigned line = 240; line < 261; line++)
@@ -111,6 +118,7 @@ static void cold(void)
         copy(&wanted, &m);
         for (unsigned p = 0; p < 256; p++)
             wanted.line[p] = (uint8_t)(4 * (p / 16 % 2 ? 0 : 1) + 2);
+        colour_line(&wanted, &m);
         set_word(wanted.unit, PPU_AT_V, v_at(0, 1));
         set_word(wanted.unit, PPU_AT_NEXT_LINE, line + 1);
         wanted.unit[PPU_AT_OAMADDR] = 0;

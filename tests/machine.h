@@ -7,19 +7,19 @@
 #include "check.h"
 #include "ppu.h"
 
-enum { UNIT, LEFT, RIGHT, NAMETABLES, OAM, PALETTE, PAGE, LINE, BUFFERS };
+enum { UNIT, LEFT, RIGHT, NAMETABLES, OAM, PALETTE, PAGE, LINE, COLOURS, BUFFERS };
 
-static const size_t right_lengths[BUFFERS] = { 16, 4096, 4096, 2048, 256, 32, 256, 256 };
-static const char *const names[BUFFERS] = { "record", "left", "right", "nametables", "oam", "palette", "page", "line" };
+static const size_t right_lengths[BUFFERS] = { 16, 4096, 4096, 2048, 256, 32, 256, 256, 512 };
+static const char *const names[BUFFERS] = { "record", "left", "right", "nametables", "oam", "palette", "page", "line", "colours" };
 
 typedef struct {
-    uint8_t *unit, *left, *right, *nametables, *oam, *palette, *page, *line;
+    uint8_t *unit, *left, *right, *nametables, *oam, *palette, *page, *line, *colours;
     size_t length[BUFFERS];
 } Machine;
 
 static inline uint8_t **buffer(Machine *m, int which)
 {
-    uint8_t **all[BUFFERS] = { &m->unit, &m->left, &m->right, &m->nametables, &m->oam, &m->palette, &m->page, &m->line };
+    uint8_t **all[BUFFERS] = { &m->unit, &m->left, &m->right, &m->nametables, &m->oam, &m->palette, &m->page, &m->line, &m->colours };
     return all[which];
 }
 
@@ -135,19 +135,21 @@ static inline uint64_t sprite_dma(Machine *m)
 static inline uint64_t one_line(Machine *m)
 {
     return ppu_line(m->unit, m->length[UNIT], m->left, m->length[LEFT], m->right, m->length[RIGHT], m->nametables, m->length[NAMETABLES],
-                    m->oam, m->length[OAM], m->line, m->length[LINE]);
+                    m->oam, m->length[OAM], m->palette, m->length[PALETTE], m->line, m->length[LINE], m->colours, m->length[COLOURS]);
 }
 
 static inline uint64_t run_lines(Machine *m, unsigned most)
 {
     return ppu_run(m->unit, m->length[UNIT], (uint16_t)most, m->left, m->length[LEFT], m->right, m->length[RIGHT], m->nametables,
-                   m->length[NAMETABLES], m->oam, m->length[OAM], m->line, m->length[LINE]);
+                   m->length[NAMETABLES], m->oam, m->length[OAM], m->palette, m->length[PALETTE], m->line, m->length[LINE], m->colours,
+                   m->length[COLOURS]);
 }
 
 static inline uint64_t play_log(Machine *m, const uint8_t *log, size_t length)
 {
     return ppu_play(m->unit, m->length[UNIT], log, length, m->left, m->length[LEFT], m->right, m->length[RIGHT], m->nametables,
-                    m->length[NAMETABLES], m->oam, m->length[OAM], m->palette, m->length[PALETTE], m->line, m->length[LINE]);
+                    m->length[NAMETABLES], m->oam, m->length[OAM], m->palette, m->length[PALETTE], m->line, m->length[LINE], m->colours,
+                    m->length[COLOURS]);
 }
 
 #endif

@@ -4,14 +4,23 @@
 pictures.py captures LOGS RAW          for each capture writes LOGS/NAME.log, a log from a fresh unit, whose start memory is filled through the
                                        ports first, LOGS/NAME.board, the board byte for it, and RAW/NAME, its own log
 pictures.py same-numbers FOLDER        the PNGs of all these logs, in grey, show the captures' pixel numbers; prints how many pictures
+pictures.py same-colours PAL FOLDER    the PNGs of all these logs show the captures' finished colours; prints how many, how many with emphasis
+pictures.py palettes FOLDER            writes palette files: all.pal, 512 colours that all differ; 0.pal and 1.pal, 64 each, with every level
+                                       where emphasis changes it; and 0.512 and 1.512, those with the others that 64 are to give
+pictures.py every-colour LOG           writes a log whose pictures 2 to 4 show each of the 512 finished colours, a row each
+pictures.py every-row PAL FOLDER       FOLDER/picture-0002.png to -0004.png are those pictures
 pictures.py drawn LOG PNG              the last picture of LOG in grey, scroll 0 and no access while drawing, shows what is worked out here
 pictures.py scaled N SMALL LARGE       LARGE is SMALL with each pixel N x N
 pictures.py coloured PAL LOG GREY PNG  PNG is the GREY picture through palette RAM, as LOG fills it at last, and the palette file
 pictures.py rows PNG RRGGBB:COUNT..    each row of PNG has one colour: so many rows of each, in this order
 """
+from fractions import Fraction
+from itertools import count
 import json
 import lzma
+from math import floor
 from pathlib import Path
+import struct
 import sys
 import zlib
 
@@ -25,7 +34,7 @@ def need(holds, text):
 
 
 class Png:
-    """A PNG of 8 bits a pixel, grey or with a palette, rows without a filter or as differences from the row above."""
+    """A PNG of 8 bits, grey, red, green, blue or with a palette, rows without a filter or as differences from the row above."""
 
     def __init__(self, path):
         data = Path(path).read_bytes()
@@ -40,22 +49,22 @@ class Png:
         need(b"IEND" in chunks and at == len(data), f"{path}: no end")
         header = chunks[b"IHDR"]
         self.width, self.height = int.from_bytes(header[:4], "big"), int.from_bytes(header[4:8], "big")
-        need(header[8] == 8 and header[9] in (0, 3) and header[12] == 0, f"{path}: not 8 bits of grey or palette")
-        self.palette = chunks.get(b"PLTE")
-        need((self.palette is not None) == (header[9] == 3), f"{path}: a palette and grey")
-        raw, step = zlib.decompress(chunks[b"IDAT"]), self.width + 1
+        need(header[8] == 8 and header[9] in (0, 2, 3) and header[12] == 0, f"{path}: not 8 bits of grey, colour or palette")
+        self.palette, self.parts = chunks.get(b"PLTE"), 3 if header[9] == 2 else 1
+        need((self.palette is not None) == (header[9] == 3), f"{path}: a palette and none")
+        raw, step = zlib.decompress(chunks[b"IDAT"]), self.width * self.parts + 1
         need(len(raw) == step * self.height, f"{path}: {len(raw)} bytes")
-        self.rows, above = [], bytes(self.width)
+        self.rows, above = [], bytes(step - 1)
         for kind, row in ((raw[at], raw[at + 1:at + step]) for at in range(0, len(raw), step)):
             need(kind in (0, 2), f"{path}: filter {kind}")
             if kind == 2:
-                row = bytes((a + b) % 256 for a, b in zip(above, row)) if any(row) else above
+                row = bytes((a + b) % 256 for a, b in zip(above, row)) if row != bytes(len(row)) else above
             self.rows.append(row)
             above = row
 
     def numbers(self):
         """The pixel numbers that the grey levels stand for: black is 0, else 69 + 6n."""
-        need(self.palette is None, "not grey")
+        need(self.palette is None and self.parts == 1, "not grey")
         table = bytearray([255] * 256)
         table[0] = 0
         for number in range(1, 32):
@@ -65,8 +74,27 @@ class Png:
         return numbers
 
     def colours(self):
-        """Each pixel as three bytes."""
-        return [b"".join(self.palette[3 * pixel:3 * pixel + 3] for pixel in row) for row in self.rows]
+        """Each row, each pixel as three bytes."""
+        return self.rows if self.parts == 3 else [shown(self.palette, row) for row in self.rows]
+
+
+def shown(palette, colours):
+    """Colours, by their numbers, as red, green and blue."""
+    parts = [palette[at:at + 3] for at in range(0, len(palette), 3)]
+    return b"".join(map(parts.__getitem__, colours))
+
+
+def extended(palette):
+    """The 512 colours of a palette file's bytes. Of 64 the others are made, by real numbers: 0.746 of each part that is not emphasised."""
+    if len(palette) == 3 * 512:
+        return palette
+    need(len(palette) == 3 * 64, "a palette of another length")
+    made = bytearray(palette)
+    for emphasis in range(1, 8):
+        for at, level in enumerate(palette):
+            named = emphasis != 7 and emphasis & 1 << at % 3
+            made.append(level if named or at // 3 % 16 in (14, 15) else floor(level * Fraction("0.746") + Fraction(1, 2)))
+    return bytes(made)
 
 
 def write(port, *data):
@@ -113,6 +141,51 @@ def same_numbers(folder):
             need(Png(path).numbers() == wanted[k * size:(k + 1) * size], f"{path}: not the capture's picture")
             compared += 1
     print(compared)
+
+
+def finished(name):
+    """The finished colours of a capture's pictures, by the picture's number."""
+    data, size = lzma.decompress((CAPTURES / f"{name}.pix.xz").read_bytes()), 2 * WIDTH * HEIGHT
+    need(len(data) > size and len(data) % size == 0, f"{name}: no pictures")
+    return {k: struct.unpack_from(f"<{WIDTH * HEIGHT}H", data, k * size) for k in range(1, len(data) // size)}
+
+
+def same_colours(palette_file, folder):
+    """The palette's colours all differ, so what a picture shows says which of the 512 each pixel is."""
+    compared, emphasised, palette = 0, 0, Path(palette_file).read_bytes()
+    need(len({palette[at:at + 3] for at in range(0, len(palette), 3)}) == 512, f"{palette_file}: not 512 colours that differ")
+    for name in names():
+        for k, wanted in finished(name).items():
+            path, plain = Path(folder, f"{name}-{k + 2:04}.png"), max(wanted) < 64
+            png = Png(path)
+            need(png.palette == (palette[:192] if plain else None), f"{path}: another palette")
+            need(b"".join(png.rows) == (bytes(wanted) if plain else shown(palette, wanted)), f"{path}: not the capture's picture")
+            compared, emphasised = compared + 1, emphasised + (not plain)
+    print(compared, emphasised)
+
+
+def palettes(folder):
+    Path(folder, "all.pal").write_bytes(b"".join(bytes((i % 256, 37 * i % 256, i // 256)) for i in range(512)))
+    levels = count()
+    for k in range(2):
+        plain = bytes(next(levels) % 256 if at // 3 % 16 < 14 else 200 for at in range(192))
+        Path(folder, f"{k}.pal").write_bytes(plain)
+        Path(folder, f"{k}.512").write_bytes(extended(plain))
+
+
+def every_colour(path):
+    """Nothing is shown but the backdrop, whose colour and emphasis change before each line; v is left below $3F00."""
+    log = run(262)
+    for row in range(3 * HEIGHT):
+        log += write(1, row % 512 // 64 << 5) + fill(0x3F00, bytes((row % 64,))) + write(6, 0, 0) + run(1 if row % HEIGHT < HEIGHT - 1 else 23)
+    Path(path).write_bytes(log)
+
+
+def every_row(palette_file, folder):
+    palette = extended(Path(palette_file).read_bytes())
+    for k in range(3):
+        wanted = [palette[at:at + 3] * WIDTH for at in (3 * ((HEIGHT * k + y) % 512) for y in range(HEIGHT))]
+        need(Png(Path(folder, f"picture-{k + 2:04}.png")).colours() == wanted, f"{folder}: other colours in picture {k + 2}")
 
 
 class Filled:
@@ -186,12 +259,14 @@ def drawn(log, path):
 def scaled(scale, small, large):
     scale, small, large = int(scale), Png(small), Png(large)
     need((large.width, large.height) == (scale * small.width, scale * small.height), "not so many times as large")
-    need(large.rows == [bytes(pixel for pixel in row for _ in range(scale)) for row in small.rows for _ in range(scale)], "other pixels")
+    need((large.palette, large.parts) == (small.palette, small.parts), "another palette")
+    rows = [b"".join(row[at:at + small.parts] * scale for at in range(0, len(row), small.parts)) for row in small.rows]
+    need(large.rows == [row for row in rows for _ in range(scale)], "other pixels")
 
 
 def coloured(palette_file, log, grey, path):
     palette, ram, png = Path(palette_file).read_bytes(), Filled(log).palette, Png(path)
-    wanted = b"".join(palette[3 * ram[number]:3 * ram[number] + 3] for number in Png(grey).numbers())
+    wanted = shown(palette, (ram[number] for number in Png(grey).numbers()))
     need(b"".join(png.colours()) == wanted, f"{path}: other colours")
     need(png.palette == palette, f"{path}: not the palette of {palette_file}")
 

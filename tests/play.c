@@ -119,7 +119,7 @@ static void lend_filled(int which, size_t length)
         memcpy(m.unit, record, length < 16 ? length : 16);
 }
 
-static int looks_at(int kind, int which) { return which != PAGE && which != (kind == 2 ? PALETTE : LINE); }
+static int looks_at(int kind, int which) { return which != PAGE && (kind == 2 || (which != LINE && which != COLOURS)); }
 
 static void lengths(void)
 {
@@ -128,16 +128,19 @@ static void lengths(void)
         for (int which = 0; which < BUFFERS; which++) {
             const size_t right = right_lengths[which], tried[] = { 0, right - 1, right + 1, right + 256, right + 65536 };
             for (int i = 0; i < 5; i++) {
-                at = 64 * kind + 8 * which + i;
+                at = 100 * kind + 10 * which + i;
                 restart(0x1E, 100);
                 lend_filled(which, tried[i]);
-                if (looks_at(kind, which))
+                if (looks_at(kind, which)) {
                     expect_refused(records[kind], 4, PPU_BAD_LENGTH);
-                else
+                } else {
+                    copy(&other, &m);
                     EXPECT(ppu_number(play_of(&m, records[kind], 4)), PPU_DONE);
+                    EXPECT_BYTES(*buffer(&m, which), *buffer(&other, which), tried[i]);
+                }
             }
         }
-    part("each memory with other lengths: an access does not look at the line buffer, nor a run at the palette; else 2");
+    part("each memory with other lengths: an access looks at neither line nor colours; else 2");
 }
 
 /* what can be wrong, in the order of the checks, and the number that it gives; a run has no address and no port */

@@ -76,14 +76,15 @@ same_picture() {
     echo "tests/readme.sh: docs/picture.png is what README.md's command draws"
 }
 
-# The C sample, with a main around it, on a unit that was never made: all zero is well formed, so a line is run.
+# The C sample, with a main around it, on a unit that was never made: all zero is well formed, so a line is run, all of it the backdrop.
 sample() {
     sed -n '/^```c$/,/^```$/{/^```/!p}' README.md >"$out/sample.c"
     [ "$(wc -l <"$out/sample.c")" -ge 10 ] || fail "README.md has no C sample"
-    echo 'int main(void) { return picture_line() && unit[PPU_AT_NEXT_LINE] == 1 ? 0 : 1; }' >>"$out/sample.c"
+    echo 'int main(void) { palette[0] = 22; return picture_line() && unit[PPU_AT_NEXT_LINE] == 1 && ppu_colour(colours, 255) == 22 ? 0 : 1; }' \
+        >>"$out/sample.c"
     "${CC:-cc}" -std=c99 -pedantic -Wall -Wextra -Werror -Iinclude -o "$out/sample" "$out/sample.c" "$archive" || fail "README.md's C sample"
     "$out/sample" || fail "README.md's C sample gives no line"
-    echo "tests/readme.sh: the C sample compiles and runs a line"
+    echo "tests/readme.sh: the C sample compiles and runs a line, whose colours are there"
 }
 
 rm -f target/picture.png

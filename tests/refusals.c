@@ -9,9 +9,9 @@ static const int takes[CALLS][BUFFERS] = {
     { UNIT, LEFT, RIGHT, NAMETABLES, OAM, PALETTE, -1 },
     { UNIT, LEFT, RIGHT, NAMETABLES, OAM, PALETTE, -1 },
     { UNIT, OAM, PAGE, -1 },
-    { UNIT, LEFT, RIGHT, NAMETABLES, OAM, LINE, -1 },
-    { UNIT, LEFT, RIGHT, NAMETABLES, OAM, LINE, -1 },
-    { UNIT, LEFT, RIGHT, NAMETABLES, OAM, LINE, -1 },
+    { UNIT, LEFT, RIGHT, NAMETABLES, OAM, PALETTE, LINE, COLOURS, -1 },
+    { UNIT, LEFT, RIGHT, NAMETABLES, OAM, PALETTE, LINE, COLOURS, -1 },
+    { UNIT, LEFT, RIGHT, NAMETABLES, OAM, PALETTE, LINE, COLOURS, -1 },
 };
 
 static Machine m, before;
@@ -57,34 +57,39 @@ static void lend_filled(int which, size_t length)
         memcpy(m.unit, record, length < 16 ? length : 16);
 }
 
+/* before a blank line, a line that is off and one that is drawn */
 static void wrong_length(int which, int lent, size_t length)
 {
-    at = (long)length;
-    restart(0, 241);
-    lend_filled(lent, length);
-    copy(&before, &m);
-    for (unsigned address = 0x2000; address < 0x2008; address++)
-        EXPECT(call(which, address), 2);
-    EXPECT_SAME(&m, &before);
+    static const unsigned states[][2] = { { 0, 241 }, { 0, 100 }, { 0x1E, 100 } };
+    for (int i = 0; i < 3; i++) {
+        at = (long)length;
+        restart(states[i][0], states[i][1]);
+        lend_filled(lent, length);
+        copy(&before, &m);
+        for (unsigned address = 0x2000; address < 0x2008; address++)
+            EXPECT(call(which, address), 2);
+        EXPECT_SAME(&m, &before);
+    }
 }
 
-/* every buffer of every call: one byte either side of its length, the other memories' lengths, and lengths equal modulo 256 and 65536 */
+/* every buffer of every call: one and two bytes either side of its length, the other memories' lengths, and lengths equal modulo 256 and 65536 */
 static void lengths(void)
 {
-    static const size_t others[] = { 0, 1, 16, 32, 256, 512, 2048, 4096, 8192 };
+    static const size_t others[] = { 0, 1, 16, 32, 256, 512, 1024, 2048, 4096, 8192 };
     for (int which = 0; which < CALLS; which++)
         for (int i = 0; takes[which][i] >= 0; i++) {
             int lent = takes[which][i];
             size_t right = right_lengths[lent];
-            wrong_length(which, lent, right - 1);
-            wrong_length(which, lent, right + 1);
+            for (size_t length = right - 2; length <= right + 2; length++)
+                if (length != right)
+                    wrong_length(which, lent, length);
             wrong_length(which, lent, right + 256);
             wrong_length(which, lent, right + 65536);
             for (size_t k = 0; k < sizeof others / sizeof others[0]; k++)
                 if (others[k] != right)
                     wrong_length(which, lent, others[k]);
         }
-    part("every buffer of every call with other lengths, at each port: refused 2");
+    part("every buffer of every call with other lengths, at each port, before lines blank, off and drawn: refused 2");
     for (int which = 0; which < CALLS; which++)
         for (int i = 0; takes[which][i] >= 0; i++)
             for (int k = 0; k < i; k++) {
@@ -285,8 +290,9 @@ static void blank_lines(void)
         int lent;
         size_t length;
         unsigned number;
-    } cases[] = { { LINE, 255, 2 }, { LINE, 257, 2 }, { LEFT, 4097, 2 }, { LINE, 256, 3 } };
-    for (int i = 0; i < 4; i++) {
+    } cases[] = { { LINE, 255, 2 },    { LINE, 257, 2 },    { LEFT, 4097, 2 },  { COLOURS, 511, 2 },
+                  { COLOURS, 513, 2 }, { COLOURS, 256, 2 }, { PALETTE, 31, 2 }, { PALETTE, 33, 2 }, { LINE, 256, 3 } };
+    for (int i = 0; i < 9; i++) {
         restart(0, 0);
         lend_filled(cases[i].lent, cases[i].length);
         for (unsigned line = 0; line < 262; line++)

@@ -10,22 +10,22 @@ static unsigned lines_wanted(unsigned control, unsigned p, unsigned n)
     return control >= 128 && to_the_stop < n ? to_the_stop : n;
 }
 
-/* a run with mask bits 3 and 4 clear: its count, next line, status, warm-up and the zeros of its drawn lines */
+/* a run with mask bits 3 and 4 clear, v now and then in the palette: its count, next line, status, warm-up, and the zeros of lines 0 to 239 with
+   their colour */
 static void expect_run(unsigned control, unsigned p, unsigned n, unsigned status, unsigned warm)
 {
-    unsigned ran = lines_wanted(control, p, n);
+    unsigned ran = lines_wanted(control, p, n), any = 0;
     set_unit(&m, 0, control, 0);
     m.unit[PPU_AT_STATUS] = (uint8_t)status;
     m.unit[PPU_AT_WARMED_UP] = (uint8_t)warm;
     m.unit[PPU_AT_OAMADDR] = 0x77;
-    set_word(m.unit, PPU_AT_V, 0x1234);
+    set_word(m.unit, PPU_AT_V, p % 3 ? 0x1234 : 0x7F1A);
     set_word(m.unit, PPU_AT_T, 0x4321);
     set_word(m.unit, PPU_AT_NEXT_LINE, p);
     memcpy(wanted.unit, m.unit, 16);
-    memset(wanted.line, 0xAA, 256);
+    spoil_line(&wanted);
     for (unsigned line = p; line < p + ran; line++) {
-        if (line % 262 < 240)
-            memset(wanted.line, 0, 256);
+        any |= line % 262 < 240;
         if (line % 262 == 241)
             wanted.unit[PPU_AT_STATUS] |= 0x80;
         if (line % 262 == 261) {
@@ -33,10 +33,15 @@ static void expect_run(unsigned control, unsigned p, unsigned n, unsigned status
             wanted.unit[PPU_AT_WARMED_UP] = 1;
         }
     }
+    if (any) {
+        memset(wanted.line, 0, 256);
+        colour_line(&wanted, &m);
+    }
     set_word(wanted.unit, PPU_AT_NEXT_LINE, (p + ran) % 262);
     EXPECT(run_lines(&m, n), answer(0, control >= 128 && wanted.unit[PPU_AT_STATUS] >= 128, ran));
     EXPECT_BYTES(m.unit, wanted.unit, 16);
     EXPECT_BYTES(m.line, wanted.line, 256);
+    EXPECT_BYTES(m.colours, wanted.colours, 512);
 }
 
 static void early_stop(void)
@@ -105,7 +110,7 @@ static void none(void)
     part("n = 0 from every line: nothing changes");
 }
 
-/* A picture that is switched on, scrolled to (100, 70): after a run the line buffer holds its last drawn line, v the row of the next. Across the
+/* A picture that is switched on, scrolled to (100, 70): after a run both buffers hold its last drawn line, v the row of the next. Across the
    frame's end v is t again, so that the new picture begins at its first row. */
 static void expect_drawn(unsigned control, unsigned p, unsigned n)
 {
@@ -131,6 +136,8 @@ static void expect_drawn(unsigned control, unsigned p, unsigned n)
     }
     for (unsigned x = 0; x < 256 && any; x++)
         wanted.line[x] = (uint8_t)background_at(&m, 100 + x, 70 + last);
+    if (any)
+        colour_line(&wanted, &m);
     set_word(wanted.unit, PPU_AT_NEXT_LINE, (p + ran) % 262);
     EXPECT(run_lines(&m, n), answer(0, control >= 128 && wanted.unit[PPU_AT_STATUS] >= 128, ran));
     EXPECT_SAME(&m, &wanted);
@@ -140,7 +147,6 @@ static void drawn(void)
 {
     static const unsigned from[] = { 0, 1, 118, 238, 239, 240, 241, 242, 259, 260, 261 };
     static const unsigned most[] = { 0, 1, 2, 3, 4, 21, 22, 23, 24, 25, 120, 262, 285 };
-    scatter(&m, 8);
     scatter_tiles(3);
     store_tiles(&m);
     no_sprites(&m);
@@ -170,6 +176,7 @@ int main(void)
 {
     m = machine();
     wanted = machine();
+    scatter(&m, 8);
     early_stop();
     small_runs();
     every_n();

@@ -1,4 +1,4 @@
-/* Scenes with everything at once: scattered tiles, nametables and sprites, random scroll, control and mask. The wanted picture is painted
+/* Scenes with everything at once: scattered tiles, nametables, sprites and palette, random scroll, control and mask. The wanted picture is painted
    layer by layer, the last of the eight sprites first. */
 #include "picture.h"
 
@@ -55,7 +55,7 @@ static unsigned paint_line(unsigned line, unsigned column, unsigned row)
     return over > 8 ? status | 0x20 : status;
 }
 
-/* one line of a scene, whole: picture, record and memory */
+/* one line of a scene, whole: picture, colours, record and memory */
 static void scene_line(void)
 {
     static const unsigned masks[] = { 0x1E, 0x1E, 0x18, 0x1A, 0x1C, 0x16, 0x0A, 0xF9 };
@@ -65,6 +65,7 @@ static void scene_line(void)
     m.unit[PPU_AT_OAMADDR] = (uint8_t)any(256);
     memcpy(wanted.unit, m.unit, 16);
     wanted.unit[PPU_AT_STATUS] = (uint8_t)paint_line(line, column, row);
+    colour_line(&wanted, &m);
     set_word(wanted.unit, PPU_AT_V, v_at(column, row + 1));
     wanted.unit[PPU_AT_OAMADDR] = 0;
     set_word(wanted.unit, PPU_AT_NEXT_LINE, line + 1);
@@ -82,8 +83,10 @@ static void scene_picture(unsigned control, unsigned mask)
     for (unsigned line = 0; line < 240; line++) {
         at = line;
         status |= paint_line(line, column, row + line);
+        colour_line(&wanted, &m);
         EXPECT(one_line(&m), answer(0, 0, 1));
         EXPECT_BYTES(m.line, wanted.line, 256);
+        EXPECT_BYTES(m.colours, wanted.colours, 512);
         EXPECT(m.unit[PPU_AT_STATUS], status);
     }
 }
@@ -106,12 +109,12 @@ int main(void)
             scene_line();
         }
     }
-    part("1000 lines of scattered scenes: picture, flags, record and memory");
+    part("1000 lines of scattered scenes: picture, colours, flags, record and memory");
     for (unsigned i = 0; i < 6; i++) {
         set_sprites();
         scene_picture(i % 2 ? 0x38 : 0x10, i < 4 ? 0x1E : 0x18);
     }
-    part("six whole pictures with sprites: every line and its flags");
+    part("six whole pictures with sprites: every line, its colours and its flags");
     release(&m);
     release(&wanted);
     return verdict("tests/scenes");

@@ -461,7 +461,7 @@ static void numbered_tiles(void)
         for (int tile = 0; tile < 256; tile++)
             for (int row = 0; row < 8; row++)
                 for (int column = 0; column < 8; column++)
-                    colours[table][tile][row][column] = (uint8_t)(tile >> (7 - column) & 1 ? 1 + (row + table) % 3 : 0);
+                    tile_colours[table][tile][row][column] = (uint8_t)(tile >> (7 - column) & 1 ? 1 + (row + table) % 3 : 0);
     store_tiles(&m);
 }
 

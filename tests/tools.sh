@@ -458,24 +458,38 @@ text_errors() {
 
 # PICTURES
 
+# The emulator's pixel numbers, and its finished colours in a palette whose 512 colours all differ.
 picture_captures() {
-    local log count
+    local log board count said
     for log in captured/*.log; do
-        ppu-picture --strict --board "$(cat "${log%.log}.board")" -o drawn "$log"
+        board=$(cat "${log%.log}.board")
+        ppu-picture --strict --board "$board" --grey -o drawn "$log"
+        ppu-picture --strict --board "$board" --palette palettes/all.pal -o coloured "$log"
     done
     count=$(pictures same-numbers drawn)
     passed "$count"
-    rm -r drawn
-    echo "  ppu-picture: $count pictures of the captures, all 61,440 pixel numbers of each"
+    said=$(pictures same-colours palettes/all.pal coloured)
+    { [ "${said% *}" = "$count" ] && [ "${said#* }" -gt 50 ]; } || fail "of $count pictures of the captures compared, and with emphasis: $said"
+    passed "$count"
+    rm -r drawn coloured
+    echo "  ppu-picture: $count pictures of the captures, all 61,440 pixel numbers and finished colours of each, ${said#* } with emphasis"
+}
+
+# A last picture that is another one enlarged.
+scaled() { # SMALL SCALE OPTION.. LOG
+    ppu-picture --last --scale "$2" -o large.png "${@:3}"
+    pictures scaled "$2" "$1" large.png
 }
 
 picture_options() {
-    local log=$root/examples/picture.log palette=$root/examples/2c02.pal
+    local log=$root/examples/picture.log
     ppu-picture "$log"
     [ "$(echo ./*.png)" = "./picture-0001.png ./picture-0002.png ./picture-0003.png ./picture-0004.png" ] || fail "not four pictures: $(echo ./*.png)"
     [ "$(stat -c %a picture-0001.png)" = "$(printf '%o' $((0666 & ~$(umask))))" ] || fail "picture-0001.png has mode $(stat -c %a picture-0001.png)"
-    pictures drawn "$log" picture-0003.png
-    pictures drawn "$log" picture-0004.png
+    ppu-picture --grey -o grey "$log"
+    pictures drawn "$log" grey/picture-0003.png
+    pictures drawn "$log" grey/picture-0004.png
+    pictures coloured "$root/examples/2c02.pal" "$log" grey/picture-0004.png picture-0004.png
     ppu-picture --last -o last.png "$log"
     same "--last -o FILE.png" last.png picture-0004.png
     ppu-picture --last --output=- - <"$log" >last.png
@@ -487,27 +501,58 @@ picture_options() {
     same "the name of standard input" folder/picture-0004.png picture-0004.png
     ppu-picture -o folder/some.png --every 3 "$log"
     same "-o PATH.png" folder/some-0003.png picture-0003.png
-    for scale in 1 3 16; do
-        ppu-picture --scale "$scale" --last -o large.png "$log"
-        pictures scaled "$scale" picture-0004.png large.png
-    done
-    ppu-picture --palette "$palette" --last -o colour.png "$log"
-    pictures coloured "$palette" "$log" picture-0004.png colour.png
+    pictures every-colour emphasised.log
+    ppu-picture --last -o emphasised.png emphasised.log
+    scaled picture-0004.png 1 "$log"
+    scaled picture-0004.png 3 "$log"
+    scaled grey/picture-0004.png 16 --grey "$log"
+    scaled emphasised.png 2 emphasised.log
+    scaled emphasised.png 16 emphasised.log
     [ "$(ppu-picture --summary -o folder "$log")" = "pictures 4 of 4, records $(($(stat -c %s "$log") / 4)), refused 1:0 2:0 3:0 4:0 5:0" ] || fail "--summary"
-    rm -r folder ./*.png
-    echo "  ppu-picture: names, --last, --every, --scale, --palette, --summary, standard input and output"
+    rm -r folder grey ./*.png emphasised.log
+    echo "  ppu-picture: names, --last, --every, --scale, --grey, --summary, standard input and output"
 }
 
-# Palette RAM and greyscale count as they are when a line is drawn: 100 lines of colour $16, 40 of $2A, 100 of $2A AND $30.
+# All 512 finished colours, in palettes of both lengths: one of 64 colours gives the pictures of the 512 that tests/pictures.py makes of it. Those
+# without a palette are examples/2c02.pal's, which tools/palette.py writes, in both lengths and for C.
+picture_palettes() {
+    local palette name
+    pictures every-colour picture.log
+    cp "$root/examples/2c02.pal" palettes/2.pal
+    python3 "$root/tools/palette.py" --emphasis palettes/2.512
+    mkdir drawn
+    for palette in all.pal {0,1,2}.{pal,512}; do
+        ppu-picture --palette "palettes/$palette" -o "drawn/$palette" picture.log
+        pictures every-row "palettes/$palette" "drawn/$palette"
+    done
+    ppu-picture -o drawn/none picture.log
+    for name in 0 1 2; do
+        diff -r "drawn/$name.pal" "drawn/$name.512" || fail "$name.pal: other pictures than those of its 512 colours"
+        passed
+    done
+    diff -r drawn/none drawn/2.pal || fail "without --palette: other pictures than those of examples/2c02.pal"
+    python3 "$root/tools/palette.py" >made
+    same "examples/2c02.pal and what makes it" made "$root/examples/2c02.pal"
+    python3 "$root/tools/palette.py" --c made
+    same "examples/2c02.h and what makes it" made "$root/examples/2c02.h"
+    passed
+    rm -r drawn made picture.log
+    echo "  ppu-picture: each of the 512 finished colours, in palettes of 64 and of 512 colours and without; tools/palette.py"
+}
+
+# A line's colours are those of its time. Cell 0 is $16, cell 1 $2A; 30 lines each, with the picture off: cell 0; in greyscale; with all emphasis;
+# backdrop override by cell 1; so in greyscale, with red; by $3F10, which is cell 0, with green; v just below the palette. With the picture on v in
+# the palette does nothing.
 picture_lines() {
-    local colour=('W 2006 3F' 'W 2006 00') palette=$root/examples/2c02.pal
-    log_of rows.log 'RUN 262' "${colour[@]}" 'W 2007 16' 'RUN 100' "${colour[@]}" 'W 2007 2A' 'RUN 40' 'W 2001 01' 'RUN 100'
-    ppu-picture --palette "$palette" --last -o rows.png rows.log
-    rgb() { tail -c +$((3 * $1 + 1)) "$palette" | head -c 3 | od -An -tx1 | tr -d ' \n'; }
-    pictures rows rows.png "$(rgb 0x16):100" "$(rgb 0x2A):40" "$(rgb 0x20):100"
-    python3 "$root/tools/palette.py" made.pal
-    same "examples/2c02.pal and what makes it" made.pal "$palette"
-    rm rows.log rows.png made.pal
+    local to=('W 2006 3F' 'W 2006 01')
+    log_of rows.log 'RUN 262' 'W 2006 3F' 'W 2006 00' 'W 2007 16' 'W 2007 2A' 'W 2006 00' 'W 2006 00' 'RUN 30' 'W 2001 01' 'RUN 30' \
+        'W 2001 E0' 'RUN 30' "${to[@]}" 'RUN 30' 'W 2001 21' 'RUN 30' 'W 2006 3F' 'W 2006 10' 'W 2001 40' 'RUN 30' 'W 2006 3E' 'W 2006 FF' 'RUN 30' \
+        "${to[@]}" 'W 2001 88' 'RUN 30'
+    ppu-picture --palette palettes/all.pal --last -o rows.png rows.log
+    rgb() { tail -c +$((3 * $1 + 1)) palettes/all.pal | head -c 3 | od -An -tx1 | tr -d ' \n'; }
+    pictures rows rows.png "$(rgb 0x016):30" "$(rgb 0x010):30" "$(rgb 0x1D6):30" "$(rgb 0x1EA):30" "$(rgb 0x060):30" "$(rgb 0x096):30" \
+        "$(rgb 0x096):30" "$(rgb 0x116):30"
+    rm rows.log rows.png
 }
 
 # A run goes on over line 241 with NMI on, and over many frames.
@@ -580,13 +625,12 @@ RECORDS
 }
 
 picture_errors() {
-    local log=$root/examples/picture.log
+    local log=$root/examples/picture.log scale length
     : >empty.log
     log_of short.log 'RUN 239' 'R 2002'
     log_of cut.log 'RUN 100' 'RAW 02 01 06'
     log_of nonzero.log 'RAW 00 20 02 01'
-    head -c 191 "$root/examples/2c02.pal" >short.pal
-    cat "$root/examples/2c02.pal" empty.log short.pal >long.pal
+    head -c 192 "$root/examples/2c02.pal" >some.pal
     refuses 2 'ppu-picture: no log given' ppu-picture
     refuses 2 'ppu-picture: b: one log at a time' ppu-picture a b
     refuses 2 'ppu-picture: --colour: no such option' ppu-picture --colour "$log"
@@ -596,13 +640,19 @@ picture_errors() {
     done
     refuses 2 'ppu-picture: --every 0: not a number' ppu-picture --every 0 "$log"
     refuses 2 'ppu-picture: --every and --last' ppu-picture --every 2 --last "$log"
+    refuses 2 'ppu-picture: --grey and --palette' ppu-picture --grey --palette some.pal "$log"
+    refuses 2 'ppu-picture: --grey=1: takes no argument' ppu-picture --grey=1 "$log"
     refuses 2 'ppu-picture: --board 12: refused 3: ' ppu-picture --board 12 "$log"
     refuses 2 'ppu-picture: --output -: only with --last' ppu-picture -o - "$log"
     refuses 3 'ppu-picture: nowhere.log: No such file' ppu-picture nowhere.log
     refuses 3 'ppu-picture: captured: a folder' ppu-picture captured
     refuses 3 'ppu-picture: nowhere.pal: No such file' ppu-picture --palette nowhere.pal "$log"
-    refuses 3 'ppu-picture: short.pal: not a palette.*fewer than 192' ppu-picture --palette short.pal "$log"
-    refuses 3 'ppu-picture: long.pal: not a palette.*more than 192' ppu-picture --palette long.pal "$log"
+    for length in 0 1 191 193 384 1535 1537 65536; do
+        head -c "$length" /dev/zero >some.pal
+        [ "$length" -lt 1537 ] || length='more than 1536'
+        refuses 3 "^ppu-picture: some.pal: not a palette: it has $length bytes, not 192 \\(64 colours\\) or 1536 \\(512 colours\\)\$" \
+            ppu-picture --palette some.pal "$log"
+    done
     refuses 3 'ppu-picture: empty.log/picture-0001.png: Not a directory' ppu-picture -o empty.log "$log"
     refuses 3 'ppu-picture: /proc/nowhere: the folder cannot be made' ppu-picture -o /proc/nowhere "$log"
     refuses 3 'ppu-picture: a/b: the folder cannot be made: No such file' ppu-picture -o a/b "$log"
@@ -613,7 +663,7 @@ picture_errors() {
     refuses 5 'ppu-picture: empty.log: the log is empty' ppu-picture empty.log
     refuses 5 'ppu-picture: short.log: no whole picture: the log ends before line 239' ppu-picture short.log
     refuses 5 'ppu-picture: .*: no picture: it has 4 whole pictures, --every 5' ppu-picture --every 5 "$log"
-    rm empty.log short.log cut.log nonzero.log short.pal long.pal full.png
+    rm empty.log short.log cut.log nonzero.log some.pal full.png
 }
 
 # A picture that cannot be written whole, by a limit as on a full disk: it is not there, nor a part of it.
@@ -658,7 +708,11 @@ batch_runs() {
     ppu-batch --last --paths drawn 'a b/x.log' ./c/x.log >sum
     sums 2 0 0 2 "$none"
     { [ -e 'drawn/a b_x/x-0004.png' ] && [ -e drawn/c_x/x-0004.png ]; } || fail "--paths: $(find drawn)"
-    rm -r drawn alone 'a b' c sum expected touched.log
+    ppu-picture --grey --last -o grey.png touched.log
+    ppu-batch --last --grey drawn touched.log >sum
+    sums 1 0 0 1 "$none"
+    same "--grey in a batch" drawn/touched/touched-0004.png grey.png
+    rm -r drawn alone grey.png 'a b' c sum expected touched.log
 }
 
 # A share takes each Nth log, all shares together all logs; a run over the same folder then has nothing left to do.
@@ -742,6 +796,7 @@ batch_errors() {
     refuses 2 'picture.log and x/picture.txt would both go to drawn/picture; --paths' ppu-batch drawn "$log" x/picture.txt
     refuses 3 'ppu-batch: nowhere: the list cannot be read' ppu-batch --list nowhere drawn
     refuses 3 'ppu-batch: nowhere.pal: No such file' ppu-batch --palette nowhere.pal drawn "$log"
+    refuses 3 'ppu-batch: .*: not a palette: it has more than 1536 bytes' ppu-batch --palette captured/hit8.log drawn "$log"
     refuses 3 'ppu-batch: /proc/nowhere: the folder cannot be made' ppu-batch /proc/nowhere "$log"
     refuses 3 'ppu-batch: captured/hit8.log: the folder cannot be made' ppu-batch captured/hit8.log "$log"
 }
@@ -806,7 +861,7 @@ readme() {
         grep -Fxq -- "${line#    }" printed || fail "tools/README.md: nothing printed $line"
         printed=$((printed + 1))
     done < <(grep -E '^    (R|W|RUN|logs|pictures|refused|  ) ' "$root/tools/README.md")
-    { [ "$commands" -eq 12 ] && [ "$printed" -eq 14 ]; } || fail "tools/README.md: $commands commands and $printed lines they print"
+    { [ "$commands" -eq 16 ] && [ "$printed" -eq 14 ]; } || fail "tools/README.md: $commands commands and $printed lines they print"
     passed 2
     rm -r readme commands printed
 }
@@ -837,8 +892,10 @@ builds
 from_the_tree ppu-log ppu-text
 numbers ppu-text
 if [ "$no_libpng" -eq 0 ]; then
-    for part in picture_captures picture_options picture_lines picture_runs picture_refusals picture_bad_record picture_errors picture_full_disk \
-        batch_runs batch_shares batch_failures batch_errors; do
+    mkdir palettes
+    pictures palettes palettes
+    for part in picture_captures picture_options picture_palettes picture_lines picture_runs picture_refusals picture_bad_record picture_errors \
+        picture_full_disk batch_runs batch_shares batch_failures batch_errors; do
         $part
     done
     batch_interrupted TERM

@@ -2,20 +2,23 @@
 #ifndef ENCODE_H
 #define ENCODE_H
 
-#include <stddef.h>
-#include <stdint.h>
+#include "ppu.h"
 
-#define PICTURE_WIDTH 256
+#define PICTURE_WIDTH PPU_LINE_LENGTH
 #define PICTURE_HEIGHT 240
-#define COLOURS 64
 #define MOST_SCALE 16
 
+/* a line as the library draws it */
 typedef struct {
-    unsigned scale;         /* 1 to 16: each pixel becomes a square of scale x scale */
-    const uint8_t *palette; /* 64 colours of red, green, blue: a pixel is one of them. NULL: a pixel is a grey level */
+    uint8_t numbers[PPU_LINE_LENGTH], colours[PPU_COLOURS_LENGTH];
+} Line;
+
+typedef struct {
+    unsigned scale;     /* 1 to 16: each pixel becomes a square of scale x scale */
+    const uint8_t *rgb; /* red, green, blue of each of the 512 finished colours. NULL: the pixel numbers as grey levels */
 } Form;
 
-/* The PNG of a picture of 256 x 240 bytes; the bytes belong to this file and last until the next call. */
-const uint8_t *encode(const uint8_t *picture, const Form *form, size_t *length);
+/* The PNG of a picture's lines; the bytes belong to this file and last until the next call. */
+const uint8_t *encode(const Line *lines, const Form *form, size_t *length);
 
 #endif

@@ -6,12 +6,12 @@
 #include <string.h>
 #include <sys/stat.h>
 #include <unistd.h>
+#include "../examples/colours.h"
 #include "encode.h"
 #include "screens.h"
 #include "tool.h"
 
 #define NAME_LENGTH 4096
-#define PICTURE_SIZE (PICTURE_WIDTH * PICTURE_HEIGHT)
 
 static const char help[] =
     "Usage: ppu-picture [OPTION]... LOG\n"
@@ -27,11 +27,13 @@ static const char help[] =
     "\n"
     "How they look\n"
     "      --scale N       each pixel is a square of N x N, 1 to 16 (default 1)\n"
-    "      --palette FILE  in colour. FILE is a .pal file: 64 colours of red, green, blue, 192 bytes. A pixel has the colour\n"
-    "                      that palette RAM held at the pixel's number when its line was drawn; mask bit 0 (greyscale)\n"
-    "                      is followed, the emphasis bits 5 to 7 are not shown.\n"
-    "                      Without a palette the pixel numbers themselves, 0 to 31, are shown in grey: number n has\n"
-    "                      level 69 + 6n and 0 is black, so that 1 is a dark grey and 31 is white.\n"
+    "      --palette FILE  a .pal file of red, green, blue, three bytes a colour: 192 bytes are the unit's 64 colours, of which those\n"
+    "                      with emphasis are made; 1536 bytes are all 512, 64 without emphasis, then 64 for each emphasis, where\n"
+    "                      1 is red, 2 green, 4 blue (default: the 64 of examples/2c02.pal, which are built in)\n"
+    "                      A pixel has the finished colour that the unit gave it when its line was drawn: palette RAM,\n"
+    "                      greyscale, emphasis and backdrop override are followed.\n"
+    "      --grey          in place of the colours the pixel numbers, 0 to 31: number n has the grey level 69 + 6n and 0 is\n"
+    "                      black, so that 1 is a dark grey and 31 is white\n"
     "\n"
     "Where they go\n"
     "  -o, --output DIR    into this folder, made if it is not there (default: the current folder), as NAME-0001.png and\n"
@@ -65,18 +67,13 @@ static const char help_numbers[] =
     "  4  the log ended at a record that was refused with 5\n"
     "  5  no picture: the log is empty, or has no whole picture, or not as many as --every asks for\n"
     "\n"
-    "Example: ppu-picture --palette examples/2c02.pal --scale 2 -o pictures examples/picture.log\n";
+    "Example: ppu-picture --scale 2 -o pictures examples/picture.log\n";
 
 typedef struct {
-    const char *output;
-    int summary;
+    const char *output, *palette;
+    int summary, grey;
     Form form;
 } Options;
-
-/* a line as it was drawn, with what its colours hang on: palette RAM and mask may change before the next */
-typedef struct {
-    uint8_t numbers[PPU_LINE_LENGTH], palette[PPU_PALETTE_LENGTH], mask;
-} Line;
 
 /* what the play has come to */
 static struct {
@@ -129,52 +126,17 @@ static void make_folder(void)
         give_up(BAD_FILE, "%s: the folder cannot be made: %s", output, strerror(errno));
 }
 
-/* what a line's numbers show: the palette's colours, or grey levels */
-static void set_shown(uint8_t *shown, const Line *line)
-{
-    uint8_t grey = line->mask & 1 ? 0x30 : 0x3F;
-    for (unsigned i = 0; i < sizeof line->palette; i++)
-        shown[i] = (uint8_t)(at.options.form.palette ? line->palette[i] & grey : (i ? 69 + 6 * i : 0));
-}
-
-static int same_colours(const Line *line, const Line *other)
-{
-    return line->mask == other->mask && memcmp(line->palette, other->palette, sizeof line->palette) == 0;
-}
-
-/* four pixels at a time are quicker */
-static void colour_line(uint8_t *row, const uint8_t *numbers, const uint8_t *shown)
-{
-    for (int x = 0; x < PICTURE_WIDTH; x += 4) {
-        row[x] = shown[numbers[x]];
-        row[x + 1] = shown[numbers[x + 1]];
-        row[x + 2] = shown[numbers[x + 2]];
-        row[x + 3] = shown[numbers[x + 3]];
-    }
-}
-
-static void colour(uint8_t *picture, const Line *lines)
-{
-    uint8_t shown[256] = { 0 }; /* for any byte, though numbers are 0 to 31 */
-    for (int y = 0; y < PICTURE_HEIGHT; y++) {
-        if (y == 0 || !same_colours(&lines[y], &lines[y - 1]))
-            set_shown(shown, &lines[y]);
-        colour_line(picture + PICTURE_WIDTH * y, lines[y].numbers, shown);
-    }
-}
-
 /* A picture that is the same as the one before has the same PNG: games stand still often. */
 static void write_picture(const Line *lines, unsigned long number)
 {
-    static uint8_t picture[PICTURE_SIZE], before[PICTURE_SIZE];
+    static Line before[PICTURE_HEIGHT];
     static const uint8_t *png;
     static size_t length;
     char name[NAME_LENGTH];
     make_folder();
-    colour(picture, lines);
-    if (!png || memcmp(before, picture, sizeof before)) {
-        png = encode(picture, &at.options.form, &length);
-        memcpy(before, picture, sizeof before);
+    if (!png || memcmp(before, lines, sizeof before)) {
+        png = encode(lines, &at.options.form, &length);
+        memcpy(before, lines, sizeof before);
     }
     name_picture(name, number);
     fwrite(png, 1, length, open_whole(name));
@@ -187,8 +149,7 @@ static void line_drawn(void *context, const Machine *machine, unsigned line)
     Line *to = &at.drawing[line];
     (void)context;
     memcpy(to->numbers, machine->line, sizeof to->numbers);
-    memcpy(to->palette, machine->palette, sizeof to->palette);
-    to->mask = machine->unit[PPU_AT_MASK];
+    memcpy(to->colours, machine->colours, sizeof to->colours);
     if (line != PICTURE_HEIGHT - 1)
         return;
     if (at.playing.last)
@@ -206,13 +167,16 @@ static void print_summary(void)
                p->record.number - !p->record.length, p->refused[1], p->refused[2], p->refused[3], p->refused[4], p->refused[5]);
 }
 
+/* The 512 colours of a palette file, of the built-in ones if there is none. */
 static const uint8_t *load_palette(const char *path)
 {
-    static uint8_t palette[3 * COLOURS];
-    int length = read_exactly(path, palette, sizeof palette);
-    if (length)
-        give_up(BAD_FILE, "%s: not a palette of 64 colours: it has %s192 bytes", input_name(path), length > 0 ? "more than " : "fewer than ");
-    return palette;
+    static uint8_t rgb[PALETTE_FILE_LENGTH];
+    uint8_t bytes[PALETTE_FILE_LENGTH];
+    size_t length = path ? read_at_most(path, bytes, sizeof bytes) : sizeof colours_2c02;
+    if (!colours_set(rgb, path ? bytes : colours_2c02, length))
+        give_up(BAD_FILE, "%s: not a palette: it has %s%u bytes, not 192 (64 colours) or 1536 (512 colours)", input_name(path),
+                length > sizeof bytes ? "more than " : "", (unsigned)(length > sizeof bytes ? sizeof bytes : length));
+    return rgb;
 }
 
 static void set_option(int option, const char *argument)
@@ -220,7 +184,8 @@ static void set_option(int option, const char *argument)
     Options *o = &at.options;
     switch (option) {
     case 's': o->form.scale = (unsigned)number_of("--scale", argument, 1, MOST_SCALE); break;
-    case 'p': o->form.palette = load_palette(argument); break;
+    case 'p': o->palette = argument; break;
+    case 'g': o->grey = 1; break;
     case 'o': o->output = argument; break;
     case 'y': o->summary = 1; break;
     case 'h': fputs(help, stdout); fputs(help_numbers, stdout); exit(DONE);
@@ -234,6 +199,8 @@ static void check_options(void)
     const Options *o = &at.options;
     int to_standard_output = o->output && strcmp(o->output, "-") == 0;
     check_playing(&at.playing);
+    if (o->grey && o->palette)
+        give_up(BAD_USAGE, "--grey and --palette: only one of them can be given");
     if (o->output && !*o->output)
         give_up(BAD_USAGE, "--output: the name is empty");
     if (to_standard_output && (!at.playing.last || o->summary))
@@ -243,8 +210,8 @@ static void check_options(void)
 static void read_options(int count, char **arguments)
 {
     static const struct option names[] = {
-        { "every", 1, NULL, 'e' }, { "last", 0, NULL, 'l' }, { "scale", 1, NULL, 's' }, { "palette", 1, NULL, 'p' }, { "output", 1, NULL, 'o' },
-        { "board", 1, NULL, 'b' }, { "strict", 0, NULL, 'x' }, { "summary", 0, NULL, 'y' }, { "help", 0, NULL, 'h' },
+        { "every", 1, NULL, 'e' }, { "last", 0, NULL, 'l' }, { "scale", 1, NULL, 's' }, { "palette", 1, NULL, 'p' }, { "grey", 0, NULL, 'g' },
+        { "output", 1, NULL, 'o' }, { "board", 1, NULL, 'b' }, { "strict", 0, NULL, 'x' }, { "summary", 0, NULL, 'y' }, { "help", 0, NULL, 'h' },
         { "version", 0, NULL, 'V' }, { NULL, 0, NULL, 0 },
     };
     int option;
@@ -259,6 +226,7 @@ static void read_options(int count, char **arguments)
     if (optind + 1 < count)
         give_up(BAD_USAGE, "%s: one log at a time; ppu-batch takes many", arguments[optind + 1]);
     at.playing.log = arguments[optind];
+    at.options.form.rgb = at.options.grey ? NULL : load_palette(at.options.palette);
 }
 
 int main(int count, char **arguments)

@@ -26,7 +26,8 @@ unsigned next_line(const Machine *machine) { return machine->unit[PPU_AT_NEXT_LI
 static uint64_t call(Machine *m, size_t unit_length, const Record *record)
 {
     return ppu_play(m->unit, unit_length, record->bytes, record->length, m->left, sizeof m->left, m->right, sizeof m->right, m->nametables,
-                    sizeof m->nametables, m->oam, sizeof m->oam, m->palette, sizeof m->palette, m->line, sizeof m->line);
+                    sizeof m->nametables, m->oam, sizeof m->oam, m->palette, sizeof m->palette, m->line, sizeof m->line, m->colours,
+                    sizeof m->colours);
 }
 
 /* 5 is tested before 2: lent a unit of no bytes, the library refuses a record with 2 and what is none with 5. */
@@ -38,15 +39,15 @@ static void hand_on(Machine *m, unsigned line)
         m->drawn(m->context, m, line);
 }
 
-/* ppu_play leaves only the last line of a run. A run changes nothing but the unit's record and the line buffer: so ppu_line, from the record
-   as it was before, gives each of the lines exactly, and leaves what the run left. */
+/* ppu_play leaves only the last line of a run. A run changes nothing but the unit's record and the line's two buffers: so ppu_line, from the
+   record as it was before, gives each of the lines exactly, and leaves what the run left. */
 static void run_again(Machine *m, const uint8_t *before, uint32_t lines)
 {
     memcpy(m->unit, before, sizeof m->unit);
     for (; lines; lines--) {
         unsigned line = next_line(m);
         ppu_line(m->unit, sizeof m->unit, m->left, sizeof m->left, m->right, sizeof m->right, m->nametables, sizeof m->nametables, m->oam,
-                 sizeof m->oam, m->line, sizeof m->line);
+                 sizeof m->oam, m->palette, sizeof m->palette, m->line, sizeof m->line, m->colours, sizeof m->colours);
         hand_on(m, line);
     }
 }

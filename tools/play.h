@@ -24,7 +24,7 @@ typedef void Drawn(void *context, const Machine *machine, unsigned line);
 
 struct Machine {
     uint8_t unit[PPU_RECORD_LENGTH], left[PPU_PATTERN_LENGTH], right[PPU_PATTERN_LENGTH], nametables[PPU_NAMETABLE_LENGTH],
-        oam[PPU_OAM_LENGTH], palette[PPU_PALETTE_LENGTH], line[PPU_LINE_LENGTH];
+        oam[PPU_OAM_LENGTH], palette[PPU_PALETTE_LENGTH], line[PPU_LINE_LENGTH], colours[PPU_COLOURS_LENGTH];
     Drawn *drawn; /* NULL: nobody looks */
     void *context;
 };

@@ -132,13 +132,19 @@ void close_input(FILE *file, const char *path)
         fclose(file);
 }
 
-int read_exactly(const char *path, void *bytes, size_t length)
+size_t read_at_most(const char *path, void *bytes, size_t most)
 {
     FILE *file = open_input(path);
-    size_t got = fread(bytes, 1, length, file);
-    int more = got == length && fgetc(file) != EOF;
+    size_t got = fread(bytes, 1, most, file);
+    got += got == most && fgetc(file) != EOF;
     close_input(file, path);
-    return got < length ? -1 : more;
+    return got;
+}
+
+int read_exactly(const char *path, void *bytes, size_t length)
+{
+    size_t got = read_at_most(path, bytes, length);
+    return got < length ? -1 : got > length;
 }
 
 /* A device or a pipe must keep its place: nothing is renamed over it. */

@@ -50,6 +50,9 @@ const char *input_name(const char *path);
 /* The end of reading: an error on the way is an end with BAD_FILE. */
 void close_input(FILE *file, const char *path);
 
+/* Reads a file of at most so many bytes: how many it has, one more than that if there are more. */
+size_t read_at_most(const char *path, void *bytes, size_t most);
+
 /* Reads a file that must have this many bytes: 0 if it has, below 0 if it has fewer, above 0 if it has more. */
 int read_exactly(const char *path, void *bytes, size_t length);
 

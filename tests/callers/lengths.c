@@ -17,16 +17,16 @@
 #include "ppu.h"
 
 /* PAGE is sprite DMA's, SHEET a page of nametable RAM. */
-enum { UNIT, LEFT, RIGHT, NAMETABLES, OAM, PALETTE, LINE, PAGE, LOG, SHEET, TABLE, ROWS, MEMORIES };
+enum { UNIT, LEFT, RIGHT, NAMETABLES, OAM, PALETTE, LINE, COLOURS, PAGE, LOG, SHEET, TABLE, ROWS, MEMORIES };
 enum { FRESH, READ, WRITE, DMA, TEXT, TEXT_PAGE, RUN_LINE, RUN_MANY, PLAY, KINDS };
 enum { LONGEST = 5000, ROOM = 8192, BARRIER = 4096, NUMBERS = 9 };
 
-static const size_t right_length[MEMORIES] = {16, 4096, 4096, 2048, 256, 32, 256, 256, 4, 1024, 256, 960};
+static const size_t right_length[MEMORIES] = {16, 4096, 4096, 2048, 256, 32, 256, 512, 256, 4, 1024, 256, 960};
 static const char *const kind_name[KINDS] = {"fresh", "read", "write", "dma", "text", "page", "line", "run", "play"};
 
 /* The memories that a kind of call is lent, and those of them that it may change, as sets of bits; for play see `played`. */
-static const unsigned lent[KINDS] = {0x01, 0x3F, 0x3F, 0x91, 0xE00, 0xE00, 0x5F, 0x5F, 0x17F};
-static const unsigned mutable_ones[KINDS] = {0x01, 0x01, 0x3F, 0x11, 0x800, 0x200, 0x41, 0x41, 0};
+static const unsigned lent[KINDS] = {0x01, 0x3F, 0x3F, 0x111, 0x1C00, 0x1C00, 0xFF, 0xFF, 0x2FF};
+static const unsigned mutable_ones[KINDS] = {0x01, 0x01, 0x3F, 0x11, 0x1000, 0x400, 0xC1, 0xC1, 0};
 
 static struct memory {
     uint8_t *room;    /* ROOM bytes between two barriers, or the block itself */
@@ -98,10 +98,11 @@ static void keep(struct memory *m)
     memcpy(m->before, m->room, room_size(m));
 }
 
-/* Makes a record of 16 bytes or more well formed, at a random line. */
+/* Makes a record of 16 bytes or more well formed, at a random line, now and then with v in the palette. */
 static void make_well_formed(uint8_t *unit)
 {
     size_t line = below(262);
+    unit[5] |= below(4) ? 0 : 0x3F;
     unit[2] &= 0xE0;
     unit[5] &= 0x7F;
     unit[7] &= 0x7F;
@@ -200,12 +201,14 @@ static uint64_t call(int kind)
         return ppu_page(SLICE(ROWS), SLICE(TABLE), SLICE(SHEET));
 #ifdef LINES
     case RUN_LINE:
-        return ppu_line(SLICE(UNIT), SLICE(LEFT), SLICE(RIGHT), SLICE(NAMETABLES), SLICE(OAM), SLICE(LINE));
+        return ppu_line(SLICE(UNIT), SLICE(LEFT), SLICE(RIGHT), SLICE(NAMETABLES), SLICE(OAM), SLICE(PALETTE), SLICE(LINE),
+                        SLICE(COLOURS));
     case PLAY:
         return ppu_play(SLICE(UNIT), SLICE(LOG), SLICE(LEFT), SLICE(RIGHT), SLICE(NAMETABLES), SLICE(OAM), SLICE(PALETTE),
-                        SLICE(LINE));
+                        SLICE(LINE), SLICE(COLOURS));
     default:
-        return ppu_run(SLICE(UNIT), (uint16_t)below(5), SLICE(LEFT), SLICE(RIGHT), SLICE(NAMETABLES), SLICE(OAM), SLICE(LINE));
+        return ppu_run(SLICE(UNIT), (uint16_t)below(5), SLICE(LEFT), SLICE(RIGHT), SLICE(NAMETABLES), SLICE(OAM), SLICE(PALETTE),
+                       SLICE(LINE), SLICE(COLOURS));
 #else
     default:
         abort();

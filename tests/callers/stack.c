@@ -26,6 +26,8 @@ static void *all_calls(void *unused)
 {
     uint64_t sum = ppu_fresh(m.unit, 16, PPU_VERTICAL | PPU_WRITABLE);
     sum += run_lines(&m, 262);
+    set_word(m.unit, PPU_AT_V, 0x3F01); /* backdrop override */
+    sum += run_lines(&m, 262);
     sum += sprite_dma(&m);
     for (unsigned port = 0; port < 8; port++)
         sum += write_at(&m, 0x2000 + port, 0x1E) + read_at(&m, 0x2000 + port);

@@ -12,10 +12,10 @@
 #include "second.h"
 
 /* SCREEN is the nametable page of the text layer, PAGE the page for sprite DMA. */
-enum { UNIT, LEFT, RIGHT, NAMETABLES, OAM, PALETTE, LINE, PAGE, LOG, SCREEN, ROWS, TABLE, MEMORIES };
+enum { UNIT, LEFT, RIGHT, NAMETABLES, OAM, PALETTE, LINE, COLOURS, PAGE, LOG, SCREEN, ROWS, TABLE, MEMORIES };
 enum { LONGEST = 4096, SLACK = 16, STEPS = 60, MOST_LINES = 24, CONTENTS = 16 };
 
-static const size_t right_length[MEMORIES] = {16, 4096, 4096, 2048, 256, 32, 256, 256, 4, 1024, 960, 256};
+static const size_t right_length[MEMORIES] = {16, 4096, 4096, 2048, 256, 32, 256, 512, 256, 4, 1024, 960, 256};
 
 struct side {
     uint8_t memory[MEMORIES][LONGEST + 2 * SLACK];
@@ -72,7 +72,7 @@ static void fill(struct side *side, unsigned choice)
 
 #define SLICE(side, m) (side).memory[m] + SLACK, length[m]
 #define ACCESS(side) SLICE(side, LEFT), SLICE(side, RIGHT), SLICE(side, NAMETABLES), SLICE(side, OAM), SLICE(side, PALETTE)
-#define PICTURE(side) SLICE(side, LEFT), SLICE(side, RIGHT), SLICE(side, NAMETABLES), SLICE(side, OAM), SLICE(side, LINE)
+#define PICTURE(side) ACCESS(side), SLICE(side, LINE), SLICE(side, COLOURS)
 
 /* Compares both sides after a call, and gives the right lengths back. */
 static void compare(const char *what, uint64_t one, uint64_t other)
@@ -229,8 +229,8 @@ static void play_record(unsigned what)
         unsigned memory = take() % MEMORIES;
         length[memory] = right_length[memory] - 1 + take() % 3;
     }
-    compare("play", ppu_play(SLICE(library, UNIT), SLICE(library, LOG), ACCESS(library), SLICE(library, LINE)),
-            second_play(SLICE(second, UNIT), SLICE(second, LOG), ACCESS(second), SLICE(second, LINE)));
+    compare("play", ppu_play(SLICE(library, UNIT), SLICE(library, LOG), PICTURE(library)),
+            second_play(SLICE(second, UNIT), SLICE(second, LOG), PICTURE(second)));
 }
 
 /* Steps 3 and 4: a line, a run, or the record of a log. */
@@ -254,7 +254,7 @@ static void change(unsigned what)
     unsigned address, byte, memory;
     switch (what & 7) {
     case 5:
-        memory = what & 8 ? LOG + (what >> 4 & 3) : what >> 4 & 7;
+        memory = what & 8 ? PAGE + (what >> 4) % (MEMORIES - PAGE) : what >> 4 & 7;
         address = take_two();
         set_byte(memory, address % right_length[memory], (uint8_t)take());
         break;
@@ -262,9 +262,8 @@ static void change(unsigned what)
         put_sprite();
         break;
     case 7:
-        memory = what >> 4 & 7;
+        memory = (what >> 4) % SCREEN;
         if (what & 8) {
-            memory = memory == PAGE && take() & 1 ? LOG : memory;
             length[memory] = take_two() % (right_length[memory] + SLACK + 1);
         } else {
             byte = take();

@@ -11,11 +11,14 @@ uint64_t second_write(uint8_t *unit, size_t, uint16_t address, uint8_t byte, uin
                       uint8_t *nametables, size_t, uint8_t *oam, size_t, uint8_t *palette, size_t);
 uint64_t second_dma(uint8_t *unit, size_t, uint8_t *oam, size_t, const uint8_t *page, size_t);
 uint64_t second_line(uint8_t *unit, size_t, const uint8_t *left, size_t, const uint8_t *right, size_t,
-                     const uint8_t *nametables, size_t, const uint8_t *oam, size_t, uint8_t *line, size_t);
+                     const uint8_t *nametables, size_t, const uint8_t *oam, size_t, const uint8_t *palette, size_t,
+                     uint8_t *line, size_t, uint8_t *colours, size_t);
 uint64_t second_run(uint8_t *unit, size_t, uint16_t lines, const uint8_t *left, size_t, const uint8_t *right, size_t,
-                    const uint8_t *nametables, size_t, const uint8_t *oam, size_t, uint8_t *line, size_t);
+                    const uint8_t *nametables, size_t, const uint8_t *oam, size_t, const uint8_t *palette, size_t,
+                    uint8_t *line, size_t, uint8_t *colours, size_t);
 uint64_t second_play(uint8_t *unit, size_t, const uint8_t *log, size_t, uint8_t *left, size_t, uint8_t *right, size_t,
-                     uint8_t *nametables, size_t, uint8_t *oam, size_t, uint8_t *palette, size_t, uint8_t *line, size_t);
+                     uint8_t *nametables, size_t, uint8_t *oam, size_t, uint8_t *palette, size_t, uint8_t *line, size_t,
+                     uint8_t *colours, size_t);
 uint64_t second_text(const uint8_t *page, size_t, const uint8_t *table, size_t, uint8_t *rows, size_t);
 uint64_t second_page(const uint8_t *rows, size_t, const uint8_t *table, size_t, uint8_t *page, size_t);
 size_t second_quarter(uint8_t board, unsigned quarter);

@@ -1,12 +1,13 @@
 #!/usr/bin/env python3
-"""Looks at the viewer's window, as the X server has it, and at what it must show. Nothing but Python's own modules.
+"""Looks at the viewer's window, as the X server has it, and at what it must show. Nothing but Python's own modules and tests/pictures.py.
 
-    window.py logs FOLDER                         writes logs and a palette file for the tests there
+    window.py logs FOLDER                         writes logs and palette files for the tests there
     window.py minimal                             prints what examples/minimal must print
     window.py store X11 PNG                       stores the window's screen
     window.py same X11 PNG                        the screen is the stored one
     window.py bmp FILE PNG                        so is this BMP file
-    window.py picture X11 PALETTE DRAWN [grey]    the picture is that of examples/picture.py in these colours, after DRAWN lines of it
+    window.py picture X11 PALETTE DRAWN [MASK]    the picture is that of examples/picture.py in these colours, after DRAWN lines of it
+    window.py capture X11 PALETTE NAME K          the picture is picture K of this capture, as the emulator drew it, in these colours
     window.py panel X11                           prints the panel's text
 
 X11 is FILE,X,Y,WIDTH,HEIGHT: the X server's frame buffer (an XWD file, which Xvfb -fbdir keeps) and the window's place in it. The screen is
@@ -22,6 +23,9 @@ import zlib
 from pathlib import Path
 
 ROOT = Path(__file__).resolve().parents[2]
+sys.dont_write_bytecode = True
+sys.path.insert(0, str(ROOT / "tests"))
+from pictures import captures, extended, finished, palettes, shown
 WIDTH, HEIGHT, MARGIN, PANEL_LEFT, PITCH, COLUMNS = 496, 256, 8, 280, 9, 26     # the layout of examples/screen.h
 BACKDROP = bytes.fromhex("24272E")
 
@@ -52,8 +56,8 @@ def scattered(chance):
 
 
 def logs(folder):
-    """The example's log, checked; the same in greys; the same with 1200 pictures more; for the panel the document's log cut short
-    and with more records, bad ones too, and random accesses and runs."""
+    """The example's log, checked; the same with other masks; the same with 1200 pictures more; the captures' logs; for the panel the
+    document's log cut short and with more records, bad ones too, and random accesses and runs."""
     log = bytes(example()["log"])
     if log != (ROOT / "examples/picture.log").read_bytes():
         fail("examples/picture.log is not what examples/picture.py writes")
@@ -61,6 +65,7 @@ def logs(folder):
     if log.count(mask) != 1:
         fail("examples/picture.log does not set the mask to $1E once")
     Path(folder, "grey.log").write_bytes(log.replace(mask, mask[:3] + b"\x1F"))
+    Path(folder, "emphasis.log").write_bytes(log.replace(mask, mask[:3] + b"\xBE"))
     Path(folder, "long.log").write_bytes(log + bytes((2, 1, 6, 0)) * 1200)
     paper = (ROOT / "examples/paper.log").read_bytes()
     for end in range(4, len(paper) + 1, 4):
@@ -73,17 +78,21 @@ def logs(folder):
     for seed in range(2):
         Path(folder, f"panel-random-{seed}.log").write_bytes(scattered(random.Random(seed)))
     Path(folder, "palette").write_bytes(b"".join(bytes((4 * i, 255 - 4 * i, 37 * i % 256)) for i in range(64)))
+    palettes(folder)
+    Path(folder, "raw").mkdir()
+    captures(folder, Path(folder, "raw"))
 
 
 def minimal():
-    """Three diamonds, by distance from their middle and not by a tile's bits: at tile columns 1, 3, 5 of row 1, scrolled by 3 and 2."""
+    """Three diamonds, by distance from their middle and not by a tile's bits: at tile columns 1, 3, 5 of row 1, scrolled by 3 and 2; behind
+    each row the colours of the first, with red emphasised."""
     for y in range(16):
-        row = ""
+        row = []
         for x in range(56):
             tile, across, down = (x + 3) // 8, (x + 3) % 8, (y + 2) % 8
             there = (y + 2) // 8 == 1 and tile in (1, 3, 5)
-            row += " .+#"[max(0, min(3, 5 - (abs(2 * across - 7) + abs(2 * down - 7)) // 2)) if there else 0]
-        print(row)
+            row.append(max(0, min(3, 5 - (abs(2 * across - 7) + abs(2 * down - 7)) // 2)) if there else 0)
+        print("".join(" .+#"[number] for number in row), *(f"{64 + (0x0F, 0x16, 0x27, 0x30)[number]:03X}" for number in row[5:13]))
 
 
 def rgb(row, step):
@@ -180,15 +189,23 @@ def numbers():
     return picture, bytes.fromhex(known["PALETTE"])
 
 
-def picture(place, palette, drawn, grey):
+def picture_of(place):
+    return [row[3 * MARGIN:3 * (MARGIN + 256)] for row in window(place)[MARGIN:MARGIN + 240]]
+
+
+def picture(place, palette, drawn, mask):
     """Lines not yet drawn are those of the picture before, the same one, at half their brightness."""
-    colours, (pixels, cells) = Path(palette).read_bytes(), numbers()
+    colours, (pixels, cells) = extended(Path(palette).read_bytes()), numbers()
     wanted = []
     for y, line in enumerate(pixels):
-        row = b"".join(colours[3 * c:3 * c + 3] for c in (cells[n] & (0x30 if grey else 0x3F) for n in line))
+        row = shown(colours, ((cells[n] & (0x30 if mask & 1 else 0x3F)) + 64 * (mask >> 5) for n in line))
         wanted.append(row if y < drawn else bytes(level // 2 for level in row))
-    got = [row[3 * MARGIN:3 * (MARGIN + 256)] for row in window(place)[MARGIN:MARGIN + 240]]
-    same(got, wanted, "the picture")
+    same(picture_of(place), wanted, "the picture")
+
+
+def capture(place, palette, name, k):
+    colours = shown(extended(Path(palette).read_bytes()), finished(name)[k])
+    same(picture_of(place), [colours[at:at + 3 * 256] for at in range(0, len(colours), 3 * 256)], f"picture {k} of {name}")
 
 
 def panel(place):
@@ -216,7 +233,9 @@ def main(job, *words):
     elif job == "bmp":
         same(bmp(words[0]), stored(words[1]), words[0])
     elif job == "picture":
-        picture(words[0], words[1], int(words[2]), words[3:] == ("grey",))
+        picture(words[0], words[1], int(words[2]), int(words[3], 16) if words[3:] else 0x1E)
+    elif job == "capture":
+        capture(*words[:3], int(words[3]))
     elif job == "panel":
         panel(*words)
     else:

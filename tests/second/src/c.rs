@@ -113,8 +113,12 @@ pub unsafe extern "C" fn line(
     nametables_size: Size,
     oam: Shared,
     oam_size: Size,
+    palette: Shared,
+    palette_size: Size,
     line: Mutable,
     line_size: Size,
+    colours: Mutable,
+    colours_size: Size,
 ) -> u64 {
     calls::line(
         from_raw_parts_mut(unit, unit_size),
@@ -122,7 +126,9 @@ pub unsafe extern "C" fn line(
         from_raw_parts(right, right_size),
         from_raw_parts(nametables, nametables_size),
         from_raw_parts(oam, oam_size),
+        from_raw_parts(palette, palette_size),
         from_raw_parts_mut(line, line_size),
+        from_raw_parts_mut(colours, colours_size),
     )
     .into()
 }
@@ -141,8 +147,12 @@ pub unsafe extern "C" fn run(
     nametables_size: Size,
     oam: Shared,
     oam_size: Size,
+    palette: Shared,
+    palette_size: Size,
     line: Mutable,
     line_size: Size,
+    colours: Mutable,
+    colours_size: Size,
 ) -> u64 {
     calls::run(
         from_raw_parts_mut(unit, unit_size),
@@ -151,7 +161,9 @@ pub unsafe extern "C" fn run(
         from_raw_parts(right, right_size),
         from_raw_parts(nametables, nametables_size),
         from_raw_parts(oam, oam_size),
+        from_raw_parts(palette, palette_size),
         from_raw_parts_mut(line, line_size),
+        from_raw_parts_mut(colours, colours_size),
     )
     .into()
 }
@@ -175,6 +187,8 @@ pub unsafe extern "C" fn play(
     palette_size: Size,
     line: Mutable,
     line_size: Size,
+    colours: Mutable,
+    colours_size: Size,
 ) -> u64 {
     calls::play(
         from_raw_parts_mut(unit, unit_size),
@@ -185,6 +199,7 @@ pub unsafe extern "C" fn play(
         from_raw_parts_mut(oam, oam_size),
         from_raw_parts_mut(palette, palette_size),
         from_raw_parts_mut(line, line_size),
+        from_raw_parts_mut(colours, colours_size),
     )
     .into()
 }

@@ -1,8 +1,8 @@
 //! The calls: a record of 16 bytes and byte slices in, an answer out.
 
+use crate::colours::Buffers;
 use crate::log::Request;
 use crate::memory::{Lent, LentMut};
-use crate::picture::Scene;
 use crate::unit::{Board, Unit, RECORD};
 
 #[derive(Clone, Copy, Debug, PartialEq, Eq)]
@@ -152,38 +152,44 @@ pub fn dma(record: &mut [u8], oam: &mut [u8], page: &[u8]) -> Answer {
 /// A call that runs lines: `work` runs them and gives how many.
 fn lines_run(
     record: &mut [u8],
-    [left, right, nametables, oam]: [&[u8]; 4],
-    line: &mut [u8],
-    work: impl Fn(&mut Unit, &Scene, &mut [u8; 256]) -> u16,
+    [left, right, nametables, oam, palette]: [&[u8]; 5],
+    [line, colours]: [&mut [u8]; 2],
+    work: impl Fn(&mut Unit, &Lent, &mut Buffers) -> u16,
 ) -> Answer {
     call(record, |saved| {
-        let scene = Scene {
+        let scene = Lent {
             left: fixed(left)?,
             right: fixed(right)?,
             nametables: fixed(nametables)?,
             oam: fixed(oam)?,
+            palette: fixed(palette)?,
         };
-        let line = fixed_mut(line)?;
+        let mut buffers = Buffers { line: fixed_mut(line)?, colours: fixed_mut(colours)? };
         let mut unit = loaded(saved)?;
-        let lines = work(&mut unit, &scene, line);
+        let lines = work(&mut unit, &scene, &mut buffers);
         Ok((unit, Done { byte: 0, lines }))
     })
 }
 
+#[allow(clippy::too_many_arguments)]
 pub fn line(
     record: &mut [u8],
     left: &[u8],
     right: &[u8],
     nametables: &[u8],
     oam: &[u8],
+    palette: &[u8],
     line: &mut [u8],
+    colours: &mut [u8],
 ) -> Answer {
-    lines_run(record, [left, right, nametables, oam], line, |unit, scene, line| {
-        unit.line(scene, line);
+    let memory = [left, right, nametables, oam, palette];
+    lines_run(record, memory, [line, colours], |unit, scene, buffers| {
+        unit.line(scene, buffers);
         1
     })
 }
 
+#[allow(clippy::too_many_arguments)]
 pub fn run(
     record: &mut [u8],
     most: u16,
@@ -191,9 +197,12 @@ pub fn run(
     right: &[u8],
     nametables: &[u8],
     oam: &[u8],
+    palette: &[u8],
     line: &mut [u8],
+    colours: &mut [u8],
 ) -> Answer {
-    lines_run(record, [left, right, nametables, oam], line, |unit, scene, line| unit.run(most, scene, line))
+    let memory = [left, right, nametables, oam, palette];
+    lines_run(record, memory, [line, colours], |unit, scene, buffers| unit.run(most, scene, buffers))
 }
 
 /// Plays the record at the front of a log: the access that it asks for, or its lines without early stop.
@@ -207,6 +216,7 @@ pub fn play(
     oam: &mut [u8],
     palette: &mut [u8],
     line: &mut [u8],
+    colours: &mut [u8],
 ) -> Answer {
     match Request::at_front(log) {
         Err(refusal) => refused(refusal),
@@ -215,8 +225,9 @@ pub fn play(
             write(record, address, byte, left, right, nametables, oam, palette)
         }
         Ok(Request::Run(lines)) => {
-            lines_run(record, [left, right, nametables, oam], line, |unit, scene, line| {
-                (0..lines).for_each(|_| unit.line(scene, line));
+            let memory = [&*left, right, nametables, oam, palette];
+            lines_run(record, memory, [line, colours], |unit, scene, buffers| {
+                (0..lines).for_each(|_| unit.line(scene, buffers));
                 lines
             })
         }

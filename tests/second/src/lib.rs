@@ -1,5 +1,5 @@
-//! A second picture unit, written from document 01 alone, to hold the library against, and a second
-//! text layer, written from document 02's words and the header.
+//! A second picture unit, written from documents 01 and 02 alone, to hold the library against, and a
+//! second text layer, written from document 02's words and the header.
 //!
 //! Nothing here is shared with the library. It works pixel by pixel and takes each rule as the
 //! document words it; speed is no aim.
@@ -7,11 +7,13 @@
 //! * `unit`: the unit, its record of 16 bytes, and what each port does
 //! * `memory`: the lent memories and where an address leads
 //! * `picture`: the pixels of one line, and what a line does to the unit
+//! * `colours`: how each pixel becomes a finished colour
 //! * `calls`: fresh, read, write, dma, line, run, play on a record and byte slices, refusals included
 //! * `log`: the records of a log, and the player of logs
 //! * `text`: the text layer, which stands above the unit: text of a page, page of a text
 
 pub mod calls;
+pub mod colours;
 pub mod log;
 pub mod memory;
 pub mod picture;

@@ -62,6 +62,8 @@ extern "C" {
         palette_size: usize,
         line: *mut u8,
         line_size: usize,
+        colours: *mut u8,
+        colours_size: usize,
     ) -> u64;
 }
 
@@ -98,8 +100,12 @@ extern "C" {
         nametables_size: usize,
         oam: *const u8,
         oam_size: usize,
+        palette: *const u8,
+        palette_size: usize,
         line: *mut u8,
         line_size: usize,
+        colours: *mut u8,
+        colours_size: usize,
     ) -> u64;
     fn ppu_run(
         unit: *mut u8,
@@ -113,8 +119,12 @@ extern "C" {
         nametables_size: usize,
         oam: *const u8,
         oam_size: usize,
+        palette: *const u8,
+        palette_size: usize,
         line: *mut u8,
         line_size: usize,
+        colours: *mut u8,
+        colours_size: usize,
     ) -> u64;
 }
 
@@ -195,6 +205,7 @@ pub fn play(
     oam: &mut [u8],
     palette: &mut [u8],
     line: &mut [u8],
+    colours: &mut [u8],
 ) -> u64 {
     unsafe {
         ppu_play(
@@ -214,6 +225,8 @@ pub fn play(
             palette.len(),
             line.as_mut_ptr(),
             line.len(),
+            colours.as_mut_ptr(),
+            colours.len(),
         )
     }
 }
@@ -233,7 +246,9 @@ pub fn line(
     right: &[u8],
     nametables: &[u8],
     oam: &[u8],
+    palette: &[u8],
     line: &mut [u8],
+    colours: &mut [u8],
 ) -> u64 {
     unsafe {
         ppu_line(
@@ -247,8 +262,12 @@ pub fn line(
             nametables.len(),
             oam.as_ptr(),
             oam.len(),
+            palette.as_ptr(),
+            palette.len(),
             line.as_mut_ptr(),
             line.len(),
+            colours.as_mut_ptr(),
+            colours.len(),
         )
     }
 }
@@ -261,7 +280,9 @@ pub fn run(
     right: &[u8],
     nametables: &[u8],
     oam: &[u8],
+    palette: &[u8],
     line: &mut [u8],
+    colours: &mut [u8],
 ) -> u64 {
     unsafe {
         ppu_run(
@@ -276,18 +297,41 @@ pub fn run(
             nametables.len(),
             oam.as_ptr(),
             oam.len(),
+            palette.as_ptr(),
+            palette.len(),
             line.as_mut_ptr(),
             line.len(),
+            colours.as_mut_ptr(),
+            colours.len(),
         )
     }
 }
 
 #[cfg(not(lines))]
-pub fn line(_: &mut [u8], _: &[u8], _: &[u8], _: &[u8], _: &[u8], _: &mut [u8]) -> u64 {
+pub fn line(
+    _: &mut [u8],
+    _: &[u8],
+    _: &[u8],
+    _: &[u8],
+    _: &[u8],
+    _: &[u8],
+    _: &mut [u8],
+    _: &mut [u8],
+) -> u64 {
     unreachable!("the archive has no ppu_line")
 }
 
 #[cfg(not(lines))]
-pub fn run(_: &mut [u8], _: u16, _: &[u8], _: &[u8], _: &[u8], _: &[u8], _: &mut [u8]) -> u64 {
+pub fn run(
+    _: &mut [u8],
+    _: u16,
+    _: &[u8],
+    _: &[u8],
+    _: &[u8],
+    _: &[u8],
+    _: &[u8],
+    _: &mut [u8],
+    _: &mut [u8],
+) -> u64 {
     unreachable!("the archive has no ppu_run")
 }

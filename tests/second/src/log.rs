@@ -1,7 +1,7 @@
 //! The records of a log, and the player of logs.
 
 use crate::calls::{self, Answer, Refusal};
-use crate::memory::{LINE, NAMETABLES, OAM, PALETTE, TABLE};
+use crate::memory::{COLOURS, LINE, NAMETABLES, OAM, PALETTE, TABLE};
 use crate::unit::RECORD;
 use std::io::{self, Write};
 
@@ -39,6 +39,7 @@ pub struct Machine {
     pub oam: [u8; OAM],
     pub palette: [u8; PALETTE],
     pub line: [u8; LINE],
+    pub colours: [u8; COLOURS],
 }
 
 impl Machine {
@@ -52,6 +53,7 @@ impl Machine {
             oam: [0; OAM],
             palette: [0; PALETTE],
             line: [0; LINE],
+            colours: [0; COLOURS],
         };
         calls::fresh(&mut machine.unit, board);
         machine
@@ -83,7 +85,16 @@ impl Machine {
     }
 
     pub fn line(&mut self) -> Answer {
-        calls::line(&mut self.unit, &self.left, &self.right, &self.nametables, &self.oam, &mut self.line)
+        calls::line(
+            &mut self.unit,
+            &self.left,
+            &self.right,
+            &self.nametables,
+            &self.oam,
+            &self.palette,
+            &mut self.line,
+            &mut self.colours,
+        )
     }
 
     pub fn play(&mut self, log: &[u8]) -> Answer {
@@ -96,6 +107,7 @@ impl Machine {
             &mut self.oam,
             &mut self.palette,
             &mut self.line,
+            &mut self.colours,
         )
     }
 

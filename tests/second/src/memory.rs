@@ -7,9 +7,10 @@ pub const NAMETABLES: usize = 2048;
 pub const OAM: usize = 256;
 pub const PALETTE: usize = 32;
 pub const LINE: usize = 256;
+pub const COLOURS: usize = 512;
 pub const PAGE: usize = 256;
 
-/// What a read is lent.
+/// What a read or a line is lent to look at.
 pub struct Lent<'a> {
     pub left: &'a [u8; TABLE],
     pub right: &'a [u8; TABLE],
@@ -58,6 +59,7 @@ impl Lent<'_> {
         self.nametables[nametable_cell(board, address)]
     }
 
+    /// The unit's colour, 0 to 63, in the palette behind an address from $3F00.
     pub fn colour(&self, address: u16) -> u8 {
         self.palette[palette_cell(address)] % 64
     }

@@ -1,20 +1,12 @@
 //! One line: its 256 pixels, and what it does to the unit.
 
-use crate::memory::{nametable_cell, LINE, NAMETABLES, OAM, TABLE};
+use crate::colours::Buffers;
+use crate::memory::{nametable_cell, Lent, LINE, OAM};
 use crate::unit::{Unit, LAST_LINE};
 
-/// What a line is lent to look at.
-#[derive(Clone, Copy)]
-pub struct Scene<'a> {
-    pub left: &'a [u8; TABLE],
-    pub right: &'a [u8; TABLE],
-    pub nametables: &'a [u8; NAMETABLES],
-    pub oam: &'a [u8; OAM],
-}
-
-impl Scene<'_> {
+impl Lent<'_> {
     /// The colour, 0 to 3, of bit `bit` in row `row` of a tile.
-    fn colour(&self, right: bool, tile: u8, row: u16, bit: u16) -> u8 {
+    fn tile_colour(&self, right: bool, tile: u8, row: u16, bit: u16) -> u8 {
         let table = if right { self.right } else { self.left };
         let at = 16 * usize::from(tile) + usize::from(row);
         (table[at] >> bit & 1) + 2 * (table[at + 8] >> bit & 1)
@@ -89,7 +81,7 @@ impl Unit {
     }
 
     /// The background's number at a column, 0 where it is not shown or not opaque.
-    fn background(&self, scene: &Scene, column: u16) -> u8 {
+    fn background(&self, scene: &Lent, column: u16) -> u8 {
         let shown = self.mask & 8 != 0 && (column >= 8 || self.mask & 2 != 0);
         if !shown {
             return 0;
@@ -98,7 +90,7 @@ impl Unit {
         let v = (0..s / 8).fold(self.v, |v, _| column_right(v));
         let nametable = |address| scene.nametables[nametable_cell(self.board, address)];
         let tile = nametable(0x2000 + v % 4096);
-        let colour = scene.colour(self.control & 0x10 != 0, tile, v >> 12, 7 - s % 8);
+        let colour = scene.tile_colour(self.control & 0x10 != 0, tile, v >> 12, 7 - s % 8);
         if colour == 0 {
             return 0;
         }
@@ -109,7 +101,7 @@ impl Unit {
     }
 
     /// The colour of a sprite at a column, 0 where it is not shown or not opaque.
-    fn sprite_colour(&self, scene: &Scene, sprite: Sprite, column: u16) -> u8 {
+    fn sprite_colour(&self, scene: &Lent, sprite: Sprite, column: u16) -> u8 {
         let shown = self.mask & 0x10 != 0 && (column >= 8 || self.mask & 4 != 0);
         let across = column.wrapping_sub(sprite.x());
         let height = self.sprite_height();
@@ -123,10 +115,10 @@ impl Unit {
         }
         let bit = if sprite.mirrors() { across } else { 7 - across };
         if height == 8 {
-            scene.colour(self.control & 8 != 0, sprite.tile(), row, bit)
+            scene.tile_colour(self.control & 8 != 0, sprite.tile(), row, bit)
         } else {
             let tile = (sprite.tile() & !1) + u8::from(row >= 8);
-            scene.colour(sprite.tile() & 1 != 0, tile, row % 8, bit)
+            scene.tile_colour(sprite.tile() & 1 != 0, tile, row % 8, bit)
         }
     }
 
@@ -138,7 +130,7 @@ impl Unit {
         all.filter(|s| s.row(height, line).is_some()).take(8).collect()
     }
 
-    fn pixel(&self, scene: &Scene, sprites: &[Sprite], column: u16) -> u8 {
+    fn pixel(&self, scene: &Lent, sprites: &[Sprite], column: u16) -> u8 {
         let background = self.background(scene, column);
         let mut seen = sprites.iter().map(|&s| (s, self.sprite_colour(scene, s, column)));
         match seen.find(|&(_, colour)| colour != 0) {
@@ -149,7 +141,7 @@ impl Unit {
     }
 
     /// Sprite 0 meets the background at some column but the last.
-    fn hits(&self, scene: &Scene) -> bool {
+    fn hits(&self, scene: &Lent) -> bool {
         let first = Sprite(&scene.oam[..4]);
         let meets = |p| self.sprite_colour(scene, first, p) != 0 && self.background(scene, p) != 0;
         (first.x()..first.x() + 8).filter(|&p| p < 255).any(meets)
@@ -162,14 +154,14 @@ impl Unit {
         waiting.count() > 8
     }
 
-    fn picture_line(&mut self, scene: &Scene, line: &mut [u8; LINE]) {
+    fn picture_line(&mut self, scene: &Lent, buffers: &mut Buffers) {
         if !self.is_rendering() {
-            line.fill(0);
+            (0..LINE).for_each(|column| self.show(scene, buffers, column, 0));
             return;
         }
         let sprites = self.sprites(scene.oam);
-        for (column, pixel) in (0..).zip(line.iter_mut()) {
-            *pixel = self.pixel(scene, &sprites, column);
+        for column in 0..LINE {
+            self.show(scene, buffers, column, self.pixel(scene, &sprites, column as u16));
         }
         if self.hits(scene) {
             self.status |= 0x40;
@@ -190,9 +182,9 @@ impl Unit {
         }
     }
 
-    pub fn line(&mut self, scene: &Scene, line: &mut [u8; LINE]) {
+    pub fn line(&mut self, scene: &Lent, buffers: &mut Buffers) {
         match self.next_line {
-            0..=239 => self.picture_line(scene, line),
+            0..=239 => self.picture_line(scene, buffers),
             241 => self.status |= 0x80,
             LAST_LINE => self.last_line(),
             _ => {}
@@ -201,10 +193,10 @@ impl Unit {
     }
 
     /// Runs up to `most` lines, ending early after line 241 if NMIs are wanted.
-    pub fn run(&mut self, most: u16, scene: &Scene, line: &mut [u8; LINE]) -> u16 {
+    pub fn run(&mut self, most: u16, scene: &Lent, buffers: &mut Buffers) -> u16 {
         for count in 1..=most {
             let ends = self.next_line == 241 && self.control & 0x80 != 0;
-            self.line(scene, line);
+            self.line(scene, buffers);
             if ends {
                 return count;
             }

@@ -2,12 +2,14 @@
 //!
 //!     replay FOLDER NAME..
 //!
-//! FOLDER has NAME.json, NAME.chr, NAME.l01 and NAME.num, decompressed. Both sides must agree in
-//! everything, and with the capture in each answer (but for status bit 5) and each pixel number.
+//! FOLDER has NAME.json, NAME.chr, NAME.l01, NAME.num and NAME.pix, decompressed. Both sides must agree
+//! in everything, and with the capture in each answer (but for status bit 5), each pixel number and each
+//! finished colour.
 //! The library plays the log two more times: with `ppu_run` for lines, and as a log by `ppu_play`.
 //! After each picture the text of its four quarters must be what a table of the tiles themselves gives.
 
 use second::log::Machine;
+use second::memory::palette_cell;
 use second::text::{self, PAGE, TEXT};
 use second::unit::Board;
 use std::fs;
@@ -15,6 +17,9 @@ use std::process::ExitCode;
 
 const WIDTH: usize = 256;
 const HEIGHT: usize = 240;
+
+/// The capture in which greyscale, emphasis and backdrop override must all be seen.
+const ALL_COLOURS: &str = "ports_w1";
 
 /// The byte that stands for a tile without a character.
 const SPACE: u8 = 32;
@@ -88,23 +93,41 @@ impl Library {
 
     fn line(&mut self) -> u64 {
         let m = &mut self.0;
-        library::line(&mut m.unit, &m.left, &m.right, &m.nametables, &m.oam, &mut m.line)
+        library::line(
+            &mut m.unit,
+            &m.left,
+            &m.right,
+            &m.nametables,
+            &m.oam,
+            &m.palette,
+            &mut m.line,
+            &mut m.colours,
+        )
     }
 
     /// Runs that many lines by runs, each of which may stop early.
     fn run(&mut self, mut lines: u16) {
         let m = &mut self.0;
         while lines > 0 {
-            let answer =
-                library::run(&mut m.unit, lines, &m.left, &m.right, &m.nametables, &m.oam, &mut m.line);
+            let answer = library::run(
+                &mut m.unit,
+                lines,
+                &m.left,
+                &m.right,
+                &m.nametables,
+                &m.oam,
+                &m.palette,
+                &mut m.line,
+                &mut m.colours,
+            );
             assert!(answer & 255 == 0 && answer >> 32 > 0, "a run of {lines} lines answered {answer:X}");
             lines -= (answer >> 32) as u16;
         }
     }
 
     fn play(&mut self, log: &[u8]) -> u64 {
-        let Machine { unit, left, right, nametables, oam, palette, line } = &mut self.0;
-        library::play(unit, log, left, right, nametables, oam, palette, line)
+        let Machine { unit, left, right, nametables, oam, palette, line, colours } = &mut self.0;
+        library::play(unit, log, left, right, nametables, oam, palette, line, colours)
     }
 
     /// A quarter's 1024 bytes as port 7 reads them; the unit is a copy and not drawing.
@@ -123,6 +146,8 @@ impl Library {
 struct Capture {
     log: Vec<u8>,
     pictures: Vec<u8>,
+    /// The pictures again, in finished colours of two bytes.
+    colours: Vec<u8>,
     patterns: Vec<u8>,
     unit: Vec<u8>,
     palette: Vec<u8>,
@@ -148,6 +173,7 @@ impl Capture {
         Capture {
             log: load("l01"),
             pictures: load("num"),
+            colours: load("pix"),
             patterns: load("chr"),
             unit: unhex(field(&json, "unit")),
             palette: unhex(field(&json, "palette")),
@@ -182,6 +208,37 @@ struct Tally {
     pictures: usize,
     /// Pages of text compared.
     texts: usize,
+    colours: Colours,
+}
+
+/// Finished colours compared with a capture, and those that a rule made other than the palette's own.
+#[derive(Default)]
+struct Colours {
+    all: usize,
+    grey: usize,
+    emphasis: usize,
+    backdrop_override: usize,
+}
+
+impl Colours {
+    /// Counts a line of the picture, by the unit's record before it, the palette and the pixel numbers.
+    fn count(&mut self, unit: &[u8; 16], palette: &[u8; 32], line: &[u8; WIDTH]) {
+        let (mask, v) = (unit[1], u16::from_le_bytes([unit[4], unit[5]]) % 0x4000);
+        let overridden = mask & 0x18 == 0 && v >= 0x3F00;
+        let colour = |cell: usize| palette[cell] % 64;
+        for number in line.iter().map(|&number| usize::from(number)) {
+            let cell = if overridden { palette_cell(v) } else { number };
+            self.all += 1;
+            self.grey += usize::from(mask & 1 != 0 && colour(cell) & !0x30 != 0);
+            self.emphasis += usize::from(mask >> 5 != 0);
+            self.backdrop_override += usize::from(colour(cell) != colour(number));
+        }
+    }
+
+    /// Each rule was seen at work.
+    fn are_of_each_kind(&self) -> bool {
+        [self.grey, self.emphasis, self.backdrop_override].iter().all(|&number| number > 0)
+    }
 }
 
 struct Replay<'a> {
@@ -236,16 +293,17 @@ impl Replay<'_> {
     }
 
     fn line(&mut self) -> Result<(), String> {
-        let line = usize::from(self.second.next_line());
+        let (line, unit) = (usize::from(self.second.next_line()), self.second.unit);
         self.begun += usize::from(line == 0);
         let (library, second) = (self.library.line(), u64::from(self.second.line()));
-        if library != second || self.library.0.line != self.second.line {
+        if library != second || self.library.0 != self.second {
             return Err(format!(
-                "line {line}: library {library:X}, second {second:X}, or their pixels differ"
+                "line {line}: library {library:X}, second {second:X}, or their memories differ"
             ));
         }
         self.tally.lines += 1;
         if line < HEIGHT && self.begun > 1 {
+            self.compare_colours(line, &unit)?;
             self.compare_pixels(line)?;
         }
         Ok(())
@@ -266,6 +324,24 @@ impl Replay<'_> {
             self.tally.pictures += 1;
             (0..4).try_for_each(|quarter| self.compare_text(quarter))?;
         }
+        Ok(())
+    }
+
+    /// The finished colours of a line; `unit` is the record before it.
+    fn compare_colours(&mut self, line: usize, unit: &[u8; 16]) -> Result<(), String> {
+        let picture = self.begun - 1;
+        let at = 2 * (picture * HEIGHT + line) * WIDTH;
+        let Some(captured) = self.capture.colours.get(at..at + 2 * WIDTH) else { return Ok(()) };
+        let machine = &self.library.0;
+        let mut pairs = captured.chunks(2).zip(machine.colours.chunks(2));
+        if let Some(column) = pairs.position(|(a, b)| a != b) {
+            let colour = |bytes: &[u8]| u16::from_le_bytes([bytes[2 * column], bytes[2 * column + 1]]);
+            let (ours, theirs) = (colour(&machine.colours), colour(captured));
+            return Err(format!(
+                "picture {picture} line {line} column {column}: colour {ours:03X}, the capture has {theirs:03X}"
+            ));
+        }
+        self.tally.colours.count(unit, &machine.palette, &machine.line);
         Ok(())
     }
 
@@ -325,12 +401,27 @@ fn verdict(folder: &str, name: &str) -> bool {
     let due = capture.pictures.len() / (WIDTH * HEIGHT) - 1;
     match replay(&capture) {
         Ok(tally) => {
+            let colours = &tally.colours;
             println!(
                 "  {name}: {} records, {} lines, {} answers ({} apart in status bit 5), {} of {due} pictures, \
-                 {} pages of text",
-                tally.records, tally.lines, tally.reads, tally.bit_5, tally.pictures, tally.texts
+                 {} pages of text; {} finished colours: {} changed by greyscale, {} by emphasis, {} by backdrop \
+                 override",
+                tally.records,
+                tally.lines,
+                tally.reads,
+                tally.bit_5,
+                tally.pictures,
+                tally.texts,
+                colours.all,
+                colours.grey,
+                colours.emphasis,
+                colours.backdrop_override
             );
-            tally.reads > 0 && tally.pictures == due && tally.texts == 4 * due
+            tally.reads > 0
+                && tally.pictures == due
+                && tally.texts == 4 * due
+                && colours.all == due * WIDTH * HEIGHT
+                && (name != ALL_COLOURS || colours.are_of_each_kind())
         }
         Err(why) => {
             println!("  {name}: DIFFERENCE: {why}");

@@ -194,11 +194,19 @@ impl Unit {
             old
         } else {
             self.read_buffer = memory.nametable(self.board, address);
-            let colour = memory.colour(address) & if self.mask & 1 != 0 { 0x30 } else { 0x3F };
-            self.latch & 0xC0 | colour
+            self.latch & 0xC0 | self.toned(memory.colour(address))
         };
         self.advance();
         answer
+    }
+
+    /// A colour of the palette as it comes out: greyscale leaves bits 5 and 4.
+    pub fn toned(&self, colour: u8) -> u8 {
+        if self.mask & 1 != 0 {
+            colour & 0x30
+        } else {
+            colour
+        }
     }
 
     /// A write of the port; the caller has ruled out port 7 while drawing.

@@ -9,6 +9,7 @@
 //! and end with the time.
 
 mod case;
+mod colours;
 mod mixed;
 mod random;
 mod scenery;
@@ -184,6 +185,10 @@ fn print_tally(tally: &Tally) {
         tally.background_pixels
     );
     println!(
+        "  lines of the picture by line calls: {} in greyscale, {} with emphasis, {} with backdrop override",
+        tally.grey, tally.emphasis, tally.backdrop_override
+    );
+    println!(
         "  {} tiles without a character; the text of each of {} pages written is its rows again",
         tally.bare_tiles,
         tally.answers[Kind::Page as usize][0]
@@ -207,6 +212,9 @@ fn is_whole(tally: &Tally) -> bool {
         tally.overflows,
         tally.sprite_pixels,
         tally.background_pixels,
+        tally.grey,
+        tally.emphasis,
+        tally.backdrop_override,
     ];
     Kind::ALL.into_iter().filter(asked).all(|k| reasons(k).iter().all(|&n| tally.answers[k as usize][n] > 0))
         && (!library::LINES || lines.iter().all(|&n| n > 0))

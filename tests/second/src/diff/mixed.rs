@@ -84,9 +84,16 @@ fn disturb(trial: &mut Trial, random: &mut Random) {
             trial.set(Name::Unit, &unit);
         }
         16..=19 => {
-            unit[1] ^= random.pick(&[0x02, 0x04, 0x06, 0x08, 0x10, 0x18]);
+            unit[1] ^= random.pick(&[0x01, 0x02, 0x04, 0x06, 0x08, 0x10, 0x18, 0x20, 0x40, 0x80]);
             trial.set(Name::Unit, &unit);
         }
+        20 => {
+            // Off, with v in the palette: backdrop override.
+            unit[1] &= !0x18;
+            unit[5] |= 0x3F;
+            trial.set(Name::Unit, &unit);
+        }
+        21 => trial.set_at(Name::Palette, random.below(32), &[random.byte()]),
         _ => {}
     }
     let malformed = second::unit::Unit::from_record(&trial.unit()).is_none();

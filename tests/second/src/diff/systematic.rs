@@ -1,5 +1,6 @@
 //! Sessions that go through all values of something.
 
+use crate::colours;
 use crate::random::Random;
 use crate::scenery;
 use crate::text;
@@ -9,7 +10,7 @@ use crate::world::{Call, Kind, Name, KINDS, SLACK};
 pub type Session = fn(&mut Trial, &mut Random, usize) -> Result<(), Stop>;
 
 /// Each kind of session, with the number of parts that it comes in.
-pub const SESSIONS: [(&str, Session, usize); 29] = [
+pub const SESSIONS: [(&str, Session, usize); 35] = [
     ("boards", boards, 1),
     ("addresses", addresses, 16),
     ("ports", ports, 8),
@@ -31,7 +32,13 @@ pub const SESSIONS: [(&str, Session, usize); 29] = [
     ("words of a log", words_of_a_log, 16),
     ("runs of a log", runs_of_a_log, 8),
     ("lengths by a log", lengths_by_a_log, 1),
+    ("each length by a log", each_length_by_a_log, 3),
+    ("pairs of lengths by a log", pairs_by_a_log, 3),
     ("order of refusals", order_of_refusals, 3),
+    ("masks and colours", colours::masks, 8),
+    ("bytes of the palette", colours::palette_bytes, colours::TONES),
+    ("v of a line that is off", colours::v_of_a_line_off, 16),
+    ("last lines of runs", colours::last_lines, 4),
     ("tables of characters", text::tables, 8),
     ("places of a page", text::places_of_a_page, 2),
     ("places of the rows", text::places_of_rows, 4),
@@ -50,7 +57,7 @@ pub fn refill(trial: &mut Trial, random: &mut Random) {
     trial.set(Name::Nametables, &scenery::nametables(random));
     trial.set(Name::Oam, &scenery::oam(random, scenery::next_line(&unit)));
     trial.set(Name::Table, &scenery::characters(random));
-    for name in [Name::Palette, Name::Line, Name::Page, Name::Log, Name::Screen, Name::Rows] {
+    for name in [Name::Palette, Name::Line, Name::Colours, Name::Page, Name::Log, Name::Screen, Name::Rows] {
         let mut bytes = vec![0; name.length()];
         random.fill(&mut bytes);
         trial.set(name, &bytes);
@@ -70,7 +77,7 @@ fn calm_unit(random: &mut Random) -> [u8; 16] {
     unit
 }
 
-fn unit_at_line(random: &mut Random, line: u16) -> [u8; 16] {
+pub fn unit_at_line(random: &mut Random, line: u16) -> [u8; 16] {
     let mut unit = scenery::unit(random);
     unit[12..14].copy_from_slice(&line.to_le_bytes());
     unit
@@ -515,8 +522,7 @@ fn runs_of_a_log(trial: &mut Trial, random: &mut Random, part: usize) -> Result<
     Ok(())
 }
 
-/// Each memory of a wrong length, under a record of each kind: an access does not look at the line
-/// buffer, nor a run at the palette.
+/// Each memory of a wrong length, under a record of each kind: an access does not look at line and colours.
 fn lengths_by_a_log(trial: &mut Trial, random: &mut Random, _: usize) -> Result<(), Stop> {
     for round in 0..16 {
         refill(trial, random);
@@ -535,15 +541,52 @@ fn lengths_by_a_log(trial: &mut Trial, random: &mut Random, _: usize) -> Result<
     Ok(())
 }
 
+/// A record of one kind that is done if no length is wrong.
+fn easy_record(random: &mut Random, kind: usize) -> [u8; 4] {
+    match kind {
+        0 => [0, 0x20, 2, 0],
+        1 => [1, 0x20, 3, random.byte()],
+        _ => [2, 0, random.below(3) as u8, 0],
+    }
+}
+
+/// A record of one kind, and palette, line and colours at each length from 0 to beyond the right one.
+fn each_length_by_a_log(trial: &mut Trial, random: &mut Random, kind: usize) -> Result<(), Stop> {
+    refill(trial, random);
+    for name in [Name::Palette, Name::Line, Name::Colours] {
+        for length in 0..=name.length() + SLACK {
+            trial.set(Name::Unit, &scenery::unit(random));
+            trial.set(Name::Log, &easy_record(random, kind));
+            trial.call(&Call::play().with_length(name, length))?;
+        }
+    }
+    Ok(())
+}
+
+/// A record of one kind, and each two memories one byte short, right or one byte long.
+fn pairs_by_a_log(trial: &mut Trial, random: &mut Random, kind: usize) -> Result<(), Stop> {
+    refill(trial, random);
+    for &one in Kind::Play.lent() {
+        for &other in Kind::Play.lent() {
+            for which in 0..9 {
+                trial.set(Name::Unit, &scenery::unit(random));
+                trial.set(Name::Log, &easy_record(random, kind));
+                let call = Call::play().with_length(one, one.length() + which % 3 - 1);
+                trial.call(&call.with_length(other, other.length() + which / 3 - 1))?;
+            }
+        }
+    }
+    Ok(())
+}
+
 /// Every set of things wrong at once with a record of one kind, so that their order shows.
 fn order_of_refusals(trial: &mut Trial, random: &mut Random, kind: usize) -> Result<(), Stop> {
-    let memories =
-        [Name::Unit, Name::Left, Name::Right, Name::Nametables, Name::Oam, Name::Palette, Name::Line];
+    let memories = Kind::Play.lent().iter().copied().filter(|&name| name != Name::Log);
     refill(trial, random);
     for wrong in 0..64 {
         let [drawing, malformed, outside, mislent, last_byte, cut] =
             [0, 1, 2, 3, 4, 5].map(|bit| wrong >> bit & 1 == 1);
-        for name in memories {
+        for name in memories.clone() {
             for length in [name.length() - 1, name.length() + 1] {
                 let mut unit = unit_at_line(random, if drawing { 100 } else { 241 });
                 unit[1] |= 0x18;

@@ -29,6 +29,10 @@ pub struct Tally {
     pub overflows: u64,
     pub sprite_pixels: u64,
     pub background_pixels: u64,
+    /// Line calls of lines 0 to 239 with mask bit 0 set, with one of bits 7-5, and off with v in the palette.
+    pub grey: u64,
+    pub emphasis: u64,
+    pub backdrop_override: u64,
     /// Tiles without a character, as text calls count them.
     pub bare_tiles: u64,
 }
@@ -45,6 +49,9 @@ impl Tally {
         self.overflows += other.overflows;
         self.sprite_pixels += other.sprite_pixels;
         self.background_pixels += other.background_pixels;
+        self.grey += other.grey;
+        self.emphasis += other.emphasis;
+        self.backdrop_override += other.backdrop_override;
         self.bare_tiles += other.bare_tiles;
     }
 
@@ -134,6 +141,11 @@ impl<'a> Trial<'a> {
             tally.went_on += u64::from(call.kind == Kind::Play && before[0] & 0x80 != 0 && lines > to_241);
             tally.hits += u64::from(raised >> 6 & 1);
             tally.overflows += u64::from(raised >> 5 & 1);
+            if call.kind == Kind::Line && next_line(before) < 240 {
+                tally.grey += u64::from(before[1] & 1);
+                tally.emphasis += u64::from(before[1] >> 5 != 0);
+                tally.backdrop_override += u64::from(before[1] & 0x18 == 0 && before[5] & 0x3F == 0x3F);
+            }
             if call.kind == Kind::Line && unit[1] & 0x18 != 0 {
                 let line = &self.library.of(Name::Line)[..256];
                 tally.sprite_pixels += line.iter().filter(|&&p| p >= 16).count() as u64;

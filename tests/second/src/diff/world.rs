@@ -10,6 +10,8 @@ pub enum Name {
     Oam,
     Palette,
     Line,
+    /// The finished colours of the line.
+    Colours,
     Page,
     Log,
     /// The nametable page of the text layer; `Page` is the one for sprite DMA.
@@ -23,7 +25,7 @@ use Name::*;
 
 impl Name {
     pub const ALL: [Name; NAMES] =
-        [Unit, Left, Right, Nametables, Oam, Palette, Line, Page, Log, Screen, Rows, Table];
+        [Unit, Left, Right, Nametables, Oam, Palette, Line, Colours, Page, Log, Screen, Rows, Table];
 
     pub fn text(self) -> &'static str {
         [
@@ -34,6 +36,7 @@ impl Name {
             "oam",
             "palette",
             "line",
+            "colours",
             "page",
             "log",
             "screen",
@@ -47,10 +50,10 @@ impl Name {
     }
 }
 
-pub const NAMES: usize = 12;
+pub const NAMES: usize = 13;
 
 /// The right lengths; a log may be longer than the record at its front.
-pub const LENGTHS: [usize; NAMES] = [16, 4096, 4096, 2048, 256, 32, 256, 256, 4, 1024, 960, 256];
+pub const LENGTHS: [usize; NAMES] = [16, 4096, 4096, 2048, 256, 32, 256, 512, 256, 4, 1024, 960, 256];
 
 /// Bytes beyond the right length that a call may be lent.
 pub const SLACK: usize = 64;
@@ -141,8 +144,8 @@ impl Kind {
             Kind::Fresh => &[Unit],
             Kind::Read | Kind::Write => &[Unit, Left, Right, Nametables, Oam, Palette],
             Kind::Dma => &[Unit, Oam, Page],
-            Kind::Line | Kind::Run => &[Unit, Left, Right, Nametables, Oam, Line],
-            Kind::Play => &[Unit, Log, Left, Right, Nametables, Oam, Palette, Line],
+            Kind::Line | Kind::Run => &[Unit, Left, Right, Nametables, Oam, Palette, Line, Colours],
+            Kind::Play => &[Unit, Log, Left, Right, Nametables, Oam, Palette, Line, Colours],
             Kind::Text | Kind::Page => &[Screen, Rows, Table],
         }
     }
@@ -174,7 +177,7 @@ macro_rules! performed {
         use $layer as layer;
         use $side as side;
         let (call, lengths) = ($call, $call.lengths);
-        let [unit, left, right, nametables, oam, palette, line, page, log, screen, rows, table] =
+        let [unit, left, right, nametables, oam, palette, line, colours, page, log, screen, rows, table] =
             &mut $world.0;
         let unit = &mut unit.bytes_mut()[..lengths[0]];
         let left = &mut left.bytes_mut()[..lengths[1]];
@@ -183,11 +186,12 @@ macro_rules! performed {
         let oam = &mut oam.bytes_mut()[..lengths[4]];
         let palette = &mut palette.bytes_mut()[..lengths[5]];
         let line = &mut line.bytes_mut()[..lengths[6]];
-        let page = &mut page.bytes_mut()[..lengths[7]];
-        let log = &mut log.bytes_mut()[..lengths[8]];
-        let screen = &mut screen.bytes_mut()[..lengths[9]];
-        let rows = &mut rows.bytes_mut()[..lengths[10]];
-        let table = &mut table.bytes_mut()[..lengths[11]];
+        let colours = &mut colours.bytes_mut()[..lengths[7]];
+        let page = &mut page.bytes_mut()[..lengths[8]];
+        let log = &mut log.bytes_mut()[..lengths[9]];
+        let screen = &mut screen.bytes_mut()[..lengths[10]];
+        let rows = &mut rows.bytes_mut()[..lengths[11]];
+        let table = &mut table.bytes_mut()[..lengths[12]];
         match call.kind {
             Kind::Fresh => side::fresh(unit, call.byte).into(),
             Kind::Read => side::read(unit, call.address, left, right, nametables, oam, palette).into(),
@@ -195,9 +199,11 @@ macro_rules! performed {
                 side::write(unit, call.address, call.byte, left, right, nametables, oam, palette).into()
             }
             Kind::Dma => side::dma(unit, oam, page).into(),
-            Kind::Line => side::line(unit, left, right, nametables, oam, line).into(),
-            Kind::Run => side::run(unit, call.most, left, right, nametables, oam, line).into(),
-            Kind::Play => side::play(unit, log, left, right, nametables, oam, palette, line).into(),
+            Kind::Line => side::line(unit, left, right, nametables, oam, palette, line, colours).into(),
+            Kind::Run => {
+                side::run(unit, call.most, left, right, nametables, oam, palette, line, colours).into()
+            }
+            Kind::Play => side::play(unit, log, left, right, nametables, oam, palette, line, colours).into(),
             Kind::Text => layer::text(screen, table, rows).into(),
             Kind::Page => layer::page(rows, table, screen).into(),
         }
