@@ -1,7 +1,7 @@
 // Runs the checked values through the public calls and prints one line each.
-// Calls: warmed, wrote, tried, got, drew, ran, number. What they show: place, cell, opaque_column, stepped, lowered.
+// Calls: warmed, wrote, tried, got, drew, ran, number. What they show: place, cell, opaque_column, stepped, lowered, wide, shown.
 // Lines: say, say_hex.
-// One function a group of values: cells, palette_cells, scrolling, stepping, rows, status, runs, refusals, records, tiles.
+// One function a group of values: cells, palette_cells, scrolling, stepping, rows, status, runs, colours, refusals, records, tiles.
 ghost use Prim.Native.Nat.{_<_};
 use model::Access;
 use model::Ppu;
@@ -251,6 +251,54 @@ fn runs() {
     say(b"run of 262 from 0: lines ", ran(0) as u64);
 }
 
+fn wide(n: u16) -> u64 {
+    n as u64
+}
+
+// The colour in the last column of a line with this mask and v, drawn or off. Its background is of pixel number 1; cell 0 of the palette holds
+// $0F, cell 1 $D6, cell 4 $2A.
+fn shown(mask: u8, v: u16) -> u64 {
+    let mut u = warmed(0);
+    u.mask = mask;
+    u.v = v;
+    let mut left = [0u8; 4096];
+    left[0] = 255;
+    let right = [0u8; 4096];
+    let nametables = [0u8; 2048];
+    let oam = [0u8; 256];
+    let mut palette = [0u8; 32];
+    palette[0] = 0x0F;
+    palette[1] = 0xD6;
+    palette[4] = 0x2A;
+    let mut line = [0u8; 256];
+    let mut colours = [0u16; 256];
+    ppu::line(
+        u,
+        &left,
+        &right,
+        &nametables,
+        &oam,
+        &palette,
+        &mut line,
+        &mut colours,
+    );
+    wide(colours[255])
+}
+
+fn colours() {
+    say(b"$D6 is shown as colour ", shown(0x1E, 0));
+    say(b"in greyscale ", shown(0x1F, 0));
+    say(b"with red ", shown(0x3E, 0));
+    say(b"with green ", shown(0x5E, 0));
+    say(b"with blue ", shown(0x9E, 0));
+    say(b"with all three, in greyscale ", shown(0xFF, 0));
+    say(b"off, v $3EFF: colour ", shown(0, 0x3EFF));
+    say(b"off, v $3F01: colour ", shown(0, 0x3F01));
+    say(b"off, v $3F14: colour ", shown(0, 0x3F14));
+    say(b"off, v $7F01: colour ", shown(0, 0x7F01));
+    say(b"off, mask $A1, v $3F01: colour ", shown(0xA1, 0x3F01));
+}
+
 fn refusals() {
     let u = warmed(0);
     let oam = [0u8; 257];
@@ -300,6 +348,7 @@ fn main() {
     rows();
     status();
     runs();
+    colours();
     refusals();
     records();
     tiles();
