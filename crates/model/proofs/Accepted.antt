@@ -26,16 +26,18 @@ module _ (c : Call) (s : State) (k : ℕ) (hk : k ≡ refusalOf c s) where
   is-done h = ap (λ (i : ℕ). gate i (done c s) s) (sym h ∙ hk)
 
 -- the first refusal is 0: the lengths fit, and the unit is well formed
-pub order-0 : (s w g d : Bool) → order s w g d ≡ 0 → s ≡ true
+pub order-0 : (k s w g d : Bool) → order k s w g d ≡ 0 → s ≡ true
 unfolding order
-order-0 true w g d e = refl
-order-0 false w g d e = absurd (omega (arith, e))
+order-0 true true w g d e = refl
+order-0 true false w g d e = absurd (omega (arith, e))
+order-0 false s w g d e = absurd (omega (arith, e))
 
-pub order-formed : (s w g d : Bool) → order s w g d ≡ 0 → w ≡ true
+pub order-formed : (k s w g d : Bool) → order k s w g d ≡ 0 → w ≡ true
 unfolding order
-order-formed true true g d e = refl
-order-formed true false g d e = absurd (omega (arith, e))
-order-formed false w g d e = absurd (omega (arith, e))
+order-formed true true true g d e = refl
+order-formed true true false g d e = absurd (omega (arith, e))
+order-formed true false w g d e = absurd (omega (arith, e))
+order-formed false s w g d e = absurd (omega (arith, e))
 
 pub and-none : (b : Bool) → b && false ≡ false
 and-none true = refl

@@ -18,7 +18,7 @@ use Rattle.model.specs.Address.{stored, placeOf}
 use Rattle.model.specs.Ports.{wroteUnit, wroteMemory, wroteOamBytes, wroteVideo, dmaOam}
 use Rattle.model.specs.Scroll.{rowDown}
 use Rattle.model.specs.Line.{marked, statusOf, drawnUnit, drawnLine, idleLine, vblankLine, preRenderLine, blankUnit, oneLine, linesRun, lineCount}
-use Rattle.model.specs.Calls.{Lent, own, other, Call, readCall, writeCall, dmaCall, lineCall, runCall, Outcome, outcome, refusal, longFor, lineLong, inRange, blocked, order, refusalOf, readDone, writeDone, dmaDone, lineDone, runDone, done, gate, onLent, lentOf, lentMemory, ownMemory, call}
+use Rattle.model.specs.Calls.{Lent, own, other, Call, readCall, writeCall, dmaCall, lineCall, runCall, searchCall, Outcome, outcome, refusal, longFor, lineLong, requestOk, inRange, blocked, order, refusalOf, readDone, writeDone, dmaDone, lineDone, runDone, searchDone, done, gate, onLent, lentOf, lentMemory, ownMemory, call}
 use Rattle.model.proofs.Tests.{cond-both, and-l, and-r}
 use Rattle.model.proofs.Colours.{coloured-long}
 use Rattle.model.proofs.Line.{picture-long, line-cells, line-board, lines-board, run-next, run-reports}
@@ -27,24 +27,26 @@ use Rattle.model.proofs.Scroll.{down-lt, side-lt}
 
 -- ACCEPTED CALLS
 pub record Accepted (c : Call) (s : State) : Type 0 where
+  pub asked : requestOk c ≡ true
   pub long : longFor c (s .unit) (s .memory) ≡ true
   pub well : isWellFormed (s .unit) ≡ true
   pub ranged : inRange c ≡ true
   pub free : isDrawing (s .unit) && blocked c ≡ false
 
-order-zero : (a b c d : Bool) → order a b c d ≡ 0 → (a ≡ true) × (b ≡ true) × (c ≡ true) × (d ≡ false)
+order-zero : (k a b c d : Bool) → order k a b c d ≡ 0 → (k ≡ true) × (a ≡ true) × (b ≡ true) × (c ≡ true) × (d ≡ false)
 unfolding order
-order-zero true true true false e = (refl, refl, refl, refl)
-order-zero true true true true e = absurd (omega arith)
-order-zero true true false d e = absurd (omega arith)
-order-zero true false c d e = absurd (omega arith)
-order-zero false b c d e = absurd (omega arith)
+order-zero true true true true false e = (refl, refl, refl, refl, refl)
+order-zero true true true true true e = absurd (omega arith)
+order-zero true true true false d e = absurd (omega arith)
+order-zero true true false c d e = absurd (omega arith)
+order-zero true false b c d e = absurd (omega arith)
+order-zero false a b c d e = absurd (omega arith)
 
 pub accepted : (c : Call) (s : State) → refusalOf c s ≡ 0 → Accepted c s
 unfolding refusalOf
 accepted c s e =
-    let p = order-zero (longFor c (s .unit) (s .memory)) (isWellFormed (s .unit)) (inRange c) (isDrawing (s .unit) && blocked c) e in
-    record { long = p .0; well = p .1; ranged = p .2; free = p .3 }
+    let p = order-zero (requestOk c) (longFor c (s .unit) (s .memory)) (isWellFormed (s .unit)) (inRange c) (isDrawing (s .unit) && blocked c) e in
+    record { asked = p .0; long = p .1; well = p .2; ranged = p .3; free = p .4 }
 
 -- what an accepted call comes to has it, and a refused one: every call has it
 pub by-gate : (P : Outcome → Type 0) (c : Call) (s : State) → (Accepted c s → P (done c s)) → ((k : ℕ) → P (outcome (refusal (suc k)) s)) → P (onLent c s)
@@ -117,12 +119,13 @@ lines-good zero s g = g
 lines-good (suc k) s g = line-good (linesRun k s) (lines-good k s g)
 
 pub done-sound : (c : Call) (s : State) → Good (s .unit) → Sound (s .unit) (done c s .after .unit)
-unfolding done readDone writeDone dmaDone lineDone runDone
+unfolding done readDone writeDone dmaDone lineDone runDone searchDone
 done-sound (readCall l a) s g = sound (kept-read (s .unit) g (a % 8) _ (s .memory .cells))
 done-sound (writeCall l a b) s g = sound (kept-write (s .unit) g b (a % 8))
 done-sound (dmaCall l p) s g = sound (kept-dma p (s .unit) g)
 done-sound (lineCall l) s g = record { good = line-good s g; board = line-board s }
 done-sound (runCall l why n) s g = record { good = lines-good (lineCount why n s) s g; board = lines-board (lineCount why n s) s }
+done-sound (searchCall l n) s g = record { good = g; board = refl }
 
 -- no call changes the board
 pub lent-board : (c : Call) (s : State) → onLent c s .after .unit .board ≡ s .unit .board
@@ -154,12 +157,13 @@ fresh-good d = well (fresh d) (omega arith)
 
 -- THE NEXT LINE after any call is as many lines further as it reports, modulo the lines of a frame
 done-lines : (c : Call) (s : State) → Good (s .unit) → done c s .after .unit .scanline ≡ (s .unit .scanline + done c s .answer .lines) % (lastLine (s .unit .board) + 1)
-unfolding done readDone writeDone dmaDone lineDone runDone
+unfolding done readDone writeDone dmaDone lineDone runDone searchDone
 done-lines (readCall l a) s g = stays (kept-read (s .unit) g (a % 8) _ (s .memory .cells) .nums) g
 done-lines (writeCall l a b) s g = stays (kept-write (s .unit) g b (a % 8) .nums) g
 done-lines (dmaCall l p) s g = stays (kept-dma p (s .unit) g .nums) g
 done-lines (lineCall l) s g = unfold linesRun in run-next 1 s (omega arith)
 done-lines (runCall l why n) s g = run-reports l why n s (omega arith)
+done-lines (searchCall l n) s g = stays (kept-refl (s .unit) g .nums) g
 
 pub lent-lines : (c : Call) (s : State) → isWellFormed (s .unit) ≡ true → onLent c s .after .unit .scanline ≡ (s .unit .scanline + onLent c s .answer .lines) % (lastLine (s .unit .board) + 1)
 lent-lines c s h =
@@ -264,7 +268,7 @@ drawn-long : {m m′ : Memory} → m′ .cells ≡ m .cells → LineLong m → L
 drawn-long {m} {m′} e h k = record { cells = subst (SameCells (m .cells)) (sym e) (same-cells (m .cells)); line = k .line ∙ sym (h .line); colours = k .colours ∙ sym (h .colours) }
 
 done-long : (c : Call) (s : State) → longFor c (s .unit) (s .memory) ≡ true → SameLengths (s .memory) (done c s .after .memory)
-unfolding done readDone writeDone dmaDone lineDone runDone
+unfolding done readDone writeDone dmaDone lineDone runDone searchDone
 done-long (readCall l a) s h = same-long (s .memory)
 done-long (writeCall l a b) s h = record { cells = wrote-long (a % 8) (s .unit) b (s .memory .cells); line = refl; colours = refl }
 done-long (dmaCall l p) s h = record { cells = record { left = refl; right = refl; nametables = refl; oam = dma-long p (s .unit) (s .memory .cells .oam); palette = refl }; line = refl; colours = refl }
@@ -275,6 +279,7 @@ done-long (runCall l why n) s h =
     let f = line-fits (s .unit) (s .memory) (subst T (sym h) tt) in
     let k = lineCount why n s in
     drawn-long (lines-cells k s) f (lines-long k s f)
+done-long (searchCall l n) s h = same-long (s .memory)
 
 -- what a call is lent keeps its lengths
 pub lent-long : (c : Call) (s : State) → SameLengths (s .memory) (onLent c s .after .memory)

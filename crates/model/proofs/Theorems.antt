@@ -12,19 +12,21 @@ use lib.Seq.{drop-cons}
 use borrow.Author.Tests.{lt-ltb, ltb-true, eq-eqb, ne-eqb}
 use Rattle.model.specs.declared.Ppu.{Ppu}
 use Rattle.model.specs.declared.Access.{Access}
+use Rattle.model.specs.declared.Answer.{Answer}
 use Rattle.model.specs.Unit.{Memory, State, state, recordLength, isWellFormed, isDrawing}
-use Rattle.model.specs.Record.{at, unitOf, recordOf}
+use Rattle.model.specs.Record.{at, unitOf, recordOf, bitByte}
 use Rattle.model.specs.Ports.{portOf}
-use Rattle.model.specs.Calls.{access, refusedAccess, loadCall, made, Saved, saveCall, refusal, Call, Outcome, outcome, outcomeOn, longFor, order, inRange, blocked, refusalOf, done, gate, onLent, lentOf, lentMemory, call, packed, exported, onRecord, exportedCall}
+use Rattle.model.specs.Calls.{access, refusedAccess, loadCall, made, Saved, saveCall, refusal, Call, Outcome, outcome, outcomeOn, longFor, requestOk, order, inRange, blocked, refusalOf, done, gate, onLent, lentOf, lentMemory, call, packed, exported, onRecord, exportedCall}
 use Rattle.model.specs.Reload.{end, endOf, total, totalOf, trace, Places, Bytes, seven, joined, reload, step, without, Within, allBelow, bytesOnly, Held, Needed, Alike}
 use Rattle.model.specs.RecordLog.{RecordState, recordState, recordCall, recordTrace, recordSystem, RecordNeeded, RecordAlike}
 use Rattle.model.specs.Log.{Record, whole, cut, recordsOf, recordKnown, recordCall as recordsCall, playOne, frontOf, playCall, exportedOne, exportedPlay}
-use Rattle.model.specs.Theorems.{AreBelow, AreBytes, Refusals, RoundTrips, Frames, Lending, Traces, DataCalls, HeldBytes, Arguments, ReloadTheorem, Mirrors, Steps, PlayedRecords, Theorems}
+use Rattle.model.specs.Theorems.{AreBelow, AreBytes, Refusals, RoundTrips, Frames, Lending, Traces, DataCalls, HeldBytes, PackedParts, Arguments, ReloadTheorem, Mirrors, Steps, PlayedRecords, Theorems}
 use Rattle.model.proofs.Tests.{and-both}
 use Rattle.model.proofs.Accepted.{is-refused, is-unmade, and-none}
 use Rattle.model.proofs.Record.{unit-record-unit, load-save, save-is, save-load}
 use Rattle.model.proofs.Calls.{frame, exported-frame}
 use Rattle.model.proofs.Colours.{colours, coloured-lines, colour-bytes}
+use Rattle.model.proofs.Search.{searches, search-calls}
 use Rattle.model.proofs.Kept.{done-num}
 use Rattle.model.proofs.Good.{call-good}
 use Rattle.model.proofs.Reloaded.{idle, demand3}
@@ -42,26 +44,30 @@ number c s = go (refusalOf c s)
     go (suc k) = refl
 
 module _ (c : Call) (s : State) where
-  is-2 : longFor c (s .unit) (s .memory) ≡ false → refusalOf c s ≡ 2
+  is-5 : requestOk c ≡ false → refusalOf c s ≡ 5
   unfolding refusalOf order
-  is-2 e = rw e
+  is-5 k = rw k
 
-  is-3 : longFor c (s .unit) (s .memory) ≡ true → isWellFormed (s .unit) ≡ false → refusalOf c s ≡ 3
+  is-2 : requestOk c ≡ true → longFor c (s .unit) (s .memory) ≡ false → refusalOf c s ≡ 2
   unfolding refusalOf order
-  is-3 e f = rw (e, f)
+  is-2 k e = rw (k, e)
 
-  is-1 : longFor c (s .unit) (s .memory) ≡ true → isWellFormed (s .unit) ≡ true → inRange c ≡ false → refusalOf c s ≡ 1
+  is-3 : requestOk c ≡ true → longFor c (s .unit) (s .memory) ≡ true → isWellFormed (s .unit) ≡ false → refusalOf c s ≡ 3
   unfolding refusalOf order
-  is-1 e f g = rw (e, f, g)
+  is-3 k e f = rw (k, e, f)
 
-  is-4 : longFor c (s .unit) (s .memory) ≡ true → isWellFormed (s .unit) ≡ true → inRange c ≡ true → isDrawing (s .unit) ≡ true → blocked c ≡ true → refusalOf c s ≡ 4
+  is-1 : requestOk c ≡ true → longFor c (s .unit) (s .memory) ≡ true → isWellFormed (s .unit) ≡ true → inRange c ≡ false → refusalOf c s ≡ 1
   unfolding refusalOf order
-  is-4 e f g h k = rw (e, f, g, h, k)
+  is-1 k e f g = rw (k, e, f, g)
 
-  is-0 : longFor c (s .unit) (s .memory) ≡ true → isWellFormed (s .unit) ≡ true → inRange c ≡ true → (isDrawing (s .unit) ≡ false) ⊎ (blocked c ≡ false) → refusalOf c s ≡ 0
+  is-4 : requestOk c ≡ true → longFor c (s .unit) (s .memory) ≡ true → isWellFormed (s .unit) ≡ true → inRange c ≡ true → isDrawing (s .unit) ≡ true → blocked c ≡ true → refusalOf c s ≡ 4
   unfolding refusalOf order
-  is-0 e f g =
-      ⊎-elim (λ (h : isDrawing (s .unit) ≡ false). rw (e, f, g, h)) (λ (k : blocked c ≡ false). rw (e, f, g, k, and-none (isDrawing (s .unit))))
+  is-4 k e f g h i = rw (k, e, f, g, h, i)
+
+  is-0 : requestOk c ≡ true → longFor c (s .unit) (s .memory) ≡ true → isWellFormed (s .unit) ≡ true → inRange c ≡ true → (isDrawing (s .unit) ≡ false) ⊎ (blocked c ≡ false) → refusalOf c s ≡ 0
+  unfolding refusalOf order
+  is-0 k e f g =
+      ⊎-elim (λ (h : isDrawing (s .unit) ≡ false). rw (k, e, f, g, h)) (λ (h : blocked c ≡ false). rw (k, e, f, g, h, and-none (isDrawing (s .unit))))
 
 -- on a record: refused by it, or by the call
 record Refused (m : Memory) (o : Outcome) : Type 0 where
@@ -72,17 +78,20 @@ module _ (c : Call) (l : List ℕ) (m : Memory) where
   abbrev x : Access
   x = loadCall l
 
-  by-load : (a b : Bool) → (cond a (cond b (onLent c (state (x .unit) m)) (outcomeOn x m)) (outcomeOn (refusedAccess 2 (x .unit)) m) .answer .number ≡ 0 → ⊥)
-      → Refused m (cond a (cond b (onLent c (state (x .unit) m)) (outcomeOn x m)) (outcomeOn (refusedAccess 2 (x .unit)) m))
-  by-load true true h =
+  abbrev loaded : Bool → Bool → Bool → Outcome
+  loaded k a b = cond k (cond a (cond b (onLent c (state (x .unit) m)) (outcomeOn x m)) (outcomeOn (refusedAccess 2 (x .unit)) m)) (outcomeOn (refusedAccess 5 (x .unit)) m)
+
+  by-load : (k a b : Bool) → (loaded k a b .answer .number ≡ 0 → ⊥) → Refused m (loaded k a b)
+  by-load true true true h =
       let f = sym (is-refused c (state (x .unit) m) (onLent c (state (x .unit) m) .answer .number) (number c (state (x .unit) m)) h) in
       record { answer = ap (λ (o : Outcome). o .answer) f; memory = ap (λ (o : Outcome). o .after .memory) f }
-  by-load true false h = record { answer = ap (λ (y : Access). y .answer) (is-unmade l (x .answer .number) refl h); memory = refl }
-  by-load false b h = record { answer = refl; memory = refl }
+  by-load true true false h = record { answer = ap (λ (y : Access). y .answer) (is-unmade l (x .answer .number) refl h); memory = refl }
+  by-load true false b h = record { answer = refl; memory = refl }
+  by-load false a b h = record { answer = refl; memory = refl }
 
   refused-record : (onRecord c l m .answer .number ≡ 0 → ⊥) → Refused m (onRecord c l m)
   unfolding onRecord
-  refused-record h = by-load (longFor c (x .unit) m) (eqb (x .answer .number) 0) h
+  refused-record h = by-load (requestOk c) (longFor c (x .unit) m) (eqb (x .answer .number) 0) h
 
 exported-refused : (c : Call) (l : List ℕ) (m : Memory) → (onRecord c l m .answer .number ≡ 0 → ⊥) → exportedCall c l m ≡ exported (onRecord c l m .answer .number) l m
 unfolding exportedCall
@@ -96,6 +105,7 @@ refusals : Refusals
 refusals =
     record {
       number = number;
+      is-5 = is-5;
       is-2 = is-2;
       is-3 = is-3;
       is-1 = is-1;
@@ -103,6 +113,22 @@ refusals =
       is-0 = is-0;
       refused = λ c s h. sym (is-refused c s (onLent c s .answer .number) (number c s) h);
       exported-refused = exported-refused;
+    }
+
+-- a packed answer's parts
+bit-small : (b : Bool) → bitByte b < 2
+bit-small true = omega arith
+bit-small false = omega arith
+
+packed-parts : (a : Answer) → PackedParts a
+packed-parts a =
+    let s : bitByte (a .nmi) < 2 = bit-small (a .nmi) in
+    record {
+      number-at = λ n. omega arith;
+      byte-at = λ n b. omega arith;
+      nmi-at = λ n b. omega arith;
+      looked-at = λ n b l. omega arith;
+      lines-at = λ n b l. omega arith;
     }
 
 round-trips : RoundTrips
@@ -118,7 +144,7 @@ lending : Lending
 unfolding call recordCall exportedCall
 lending =
     record {
-      lent-of = λ l a b n p. (refl, refl, refl, refl, refl);
+      lent-of = λ l a b n p. (refl, refl, refl, refl, refl, refl);
       own-memory = λ c s e. rw e;
       other-memory = λ c s m e. rw e;
       own-record = λ c s e. rw e;
@@ -171,7 +197,7 @@ data-calls =
       data-write = λ l a b.
           ⊎-elim (λ (e : portOf a ≡ 4). rw (eq-eqb (portOf a) 4 e)) (λ (e : portOf a ≡ 7). rw (eq-eqb (portOf a) 7 e) (or-true (eqb (portOf a) 4)));
       no-data-write = λ l a b e f. rw (ne-eqb (portOf a) 4 e, ne-eqb (portOf a) 7 f);
-      no-data = λ l a why n. (refl, refl, refl);
+      no-data = λ l a why n. (refl, refl, refl, refl);
     }
 
 -- BYTES
@@ -206,23 +232,25 @@ arguments =
       fits-dma = λ l p f. (f .0, bytes-below p (f .1));
       fits-line = λ l f. f;
       fits-run = λ l why n f. f;
+      fits-search = λ l n f. f;
       fits-lent = λ m f. f;
       fits-all = λ c cs f. f;
     }
 
 -- 4 is given only while drawing
-never : (a b c : Bool) → order a b c false ≡ 4 → ⊥
+never : (k a b c : Bool) → order k a b c false ≡ 4 → ⊥
 unfolding order
-never true true true e = omega (arith, e)
-never true true false e = omega (arith, e)
-never true false c e = omega (arith, e)
-never false b c e = omega (arith, e)
+never true true true true e = omega (arith, e)
+never true true true false e = omega (arith, e)
+never true true false c e = omega (arith, e)
+never true false b c e = omega (arith, e)
+never false a b c e = omega (arith, e)
 
 never-4 : (c : Call) (s : State) → Within s → call c s .answer .number ≡ 4 → ⊥
 unfolding call refusalOf
 never-4 c s h e =
     let t : State = state (s .unit) (lentMemory (lentOf c) (s .memory)) in
-    never (longFor c (t .unit) (t .memory)) (isWellFormed (t .unit)) (inRange c)
+    never (requestOk c) (longFor c (t .unit) (t .memory)) (isWellFormed (t .unit)) (inRange c)
     (rw (idle (s .unit) (h .0) (h .1)) at (sym (number c t) ∙ e))
 
 -- THE RELOAD, on records: what a unit shows, its record shows
@@ -330,6 +358,7 @@ pub theorems : Theorems
 theorems =
     record {
       refusals = refusals;
+      packed-parts = packed-parts;
       round-trips = round-trips;
       frames = record { frame = frame; exported-frame = exported-frame };
       lending = lending;
@@ -344,6 +373,8 @@ theorems =
       colours = colours;
       coloured-lines = coloured-lines;
       colour-bytes = colour-bytes;
+      searches = searches;
+      search-calls = search-calls;
       quarter-pages = quarter-pages;
       rows = rows;
       pages = pages;

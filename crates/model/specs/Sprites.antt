@@ -1,5 +1,5 @@
 -- What one line does: the sprites.
-use mathlib.Core.Bool.{Bool, cond, _&&_, _||_}
+use mathlib.Core.Bool.{Bool, false, cond, not, _&&_, _||_}
 use mathlib.Core.List.{List, [], _∷_, _++_, map}
 use Prim.Native.Nat.{ℕ, zero, suc, _+_, _-_, _*_, _/_, _%_}
 use lib.Dec.{leb, ltb, eqb}
@@ -17,9 +17,13 @@ oamAt o i k = getD o (4 * i + k) 0
 unfoldable pub height : ℕ → ℕ
 height c = cond (bit 32 c) 16 8
 
--- y ≤ n < y + h. On line L a sprite is drawn if this holds of n = L - 1, and counted for overflow if it holds of n = L
+-- the Y byte y is in range of line n: y ≤ n < y + h
+abbrev pub isInRange : ℕ → ℕ → ℕ → Bool
+isInRange c n y = leb y n && ltb n (y + height c)
+
+-- sprite i is. On line L it is drawn if this holds of n = L - 1
 unfoldable pub covers : ℕ → List ℕ → ℕ → ℕ → Bool
-covers c o n i = leb (oamAt o i 0) n && ltb n (oamAt o i 0 + height c)
+covers c o n i = isInRange c n (oamAt o i 0)
 
 -- of the sprites below n those that f has, in OAM order; and how many
 unfoldable pub placesOf : (ℕ → Bool) → ℕ → List ℕ
@@ -83,6 +87,32 @@ spriteZeroOn c l r o n p = cond (ltb 0 n && covers c o (n - 1) 0) (shade (fetche
 unfoldable pub spriteShown : ℕ → ℕ → ℕ → ℕ
 spriteShown mask p s = cond (bit 16 mask && (leb 8 p || bit 4 mask)) s 0
 
--- overflow on line L: more than eight sprites have y ≤ L < y + h
+-- OVERFLOW on line n, as the chip searches. Byte k of sprite i tried as a Y byte: y ≤ n < y + h
+unfoldable pub tried : ℕ → List ℕ → ℕ → ℕ → ℕ → Bool
+tried c o n i k = isInRange c n (oamAt o i k)
+
+-- where the search stands: the sprites looked at, and so the number of the next; which of its bytes is tried; the sprites found; the bit
+pub record Look : Type 0 where
+  pub looked : ℕ
+  pub byte : ℕ
+  pub found : ℕ
+  pub over : Bool
+
+-- one sprite more. Until eight are found byte 0 is tried. Then, in range: the bit is set; not in range: the next sprite and the next byte, from 3 to 0
+unfoldable pub lookOn : ℕ → List ℕ → ℕ → Look → Look
+lookOn c o n s =
+    let eight : Bool = leb 8 (s .found) in
+    let y : Bool = tried c o n (s .looked) (s .byte) in
+    record { looked = s .looked + 1; byte = cond eight ((s .byte + 1) % 4) 0; found = cond (y && not eight) (s .found + 1) (s .found); over = y && eight }
+
+-- k steps of the search, none after the one that sets the bit
+unfoldable pub looksOf : ℕ → List ℕ → ℕ → ℕ → Look
+looksOf c o n zero = record { looked = 0; byte = 0; found = 0; over = false }
+looksOf c o n (suc k) = let s : Look = looksOf c o n k in cond (s .over) s (lookOn c o n s)
+
+-- it ends past sprite 63: whether it set the bit, and how many sprites it looked at
 unfoldable pub overflows : ℕ → List ℕ → ℕ → Bool
-overflows c o n = ltb 8 (countOf (covers c o n) 64)
+overflows c o n = looksOf c o n 64 .over
+
+unfoldable pub lookedAt : ℕ → List ℕ → ℕ → ℕ
+lookedAt c o n = looksOf c o n 64 .looked

@@ -1,19 +1,21 @@
 -- What is proved of the definitions: the statements. proofs/Theorems.antt has the proof of each.
 use mathlib.Core.Path.{_≡_}
-use mathlib.Core.Bool.{true, false}
+use mathlib.Core.Bool.{Bool, true, false, _||_}
 use mathlib.Core.List.{List, [], _∷_, _++_, map}
 use mathlib.Core.Logic.{_⊎_}
-use Prim.Native.Nat.{ℕ, _+_, _*_, _/_, _%_, _≤_, _<_}
+use Prim.Native.Nat.{ℕ, _+_, _-_, _*_, _/_, _%_, _≤_, _<_}
 use lib.ListN.{length}
 use Rattle.model.specs.declared.Board.{Board}
 use Rattle.model.specs.declared.Ppu.{Ppu}
-use Rattle.model.specs.Unit.{nametableLength, lineLength, coloursLength, Cells, Memory, withCells, withLines, accessMemory, dmaMemory, State, state, zeroUnit, recordLength, bit, isWellFormed, isRendering, isDrawing}
-use Rattle.model.specs.Record.{at, recordOf}
+use Rattle.model.specs.declared.Answer.{Answer}
+use Rattle.model.specs.Unit.{nametableLength, oamLength, lineLength, coloursLength, Cells, Memory, withCells, withLines, accessMemory, dmaMemory, State, state, zeroUnit, recordLength, bit, isWellFormed, isRendering, isDrawing}
+use Rattle.model.specs.Record.{at, recordOf, bitByte}
 use Rattle.model.specs.Address.{paletteCell, nametableByte, withOam, quarterPart}
 use Rattle.model.specs.Ports.{portOf, dataByte}
+use Rattle.model.specs.Sprites.{covers, countOf, tried, overflows, lookedAt}
 use Rattle.model.specs.Colours.{shownCell, colourAt, numbersOf}
 use Rattle.model.specs.Line.{oneLine}
-use Rattle.model.specs.Calls.{made, loadCall, saved, saveCall, refusal, Lent, own, other, Call, readCall, writeCall, dmaCall, lineCall, runCall, Outcome, outcome, longFor, inRange, blocked, refusalOf, done, onLent, lentOf, given, call, packed, Exported, exported, onRecord, exportedCall}
+use Rattle.model.specs.Calls.{made, loadCall, saved, saveCall, refusal, lookedAnswer, Lent, own, other, Call, readCall, writeCall, dmaCall, lineCall, runCall, searchCall, Outcome, outcome, longFor, requestOk, inRange, blocked, refusalOf, done, onLent, lentOf, given, call, packed, Exported, exported, onRecord, exportedCall}
 use Rattle.model.specs.Reload.{end, total, trace, dataCall, At, Places, Bytes, seven, joined, reload, step, without, Pair, Alike, Within, allBelow, bytesOnly, Held, LentFits, Fits, AllFit, Needed, endOf}
 use Rattle.model.specs.RecordLog.{RecordState, recordState, recordGiven, recordCall, recordTrace, recordSystem, RecordPair, RecordNeeded, RecordAlike}
 use Rattle.model.specs.Log.{recordKnown, recordCall as recordsCall, playCall, exportedPlay}
@@ -28,19 +30,28 @@ AreBelow n l = (k : ℕ) → at l k < n
 abbrev pub AreBytes : List ℕ → Type 0
 AreBytes l = AreBelow 256 l
 
--- DEMAND 1. The number of a call is the first of 2, 3, 1, 4 that holds, and 0 if none does; a refused call changes nothing, and its packed
+-- DEMAND 1. The number of a call is the first of 5, 2, 3, 1, 4 that holds, and 0 if none does; a refused call changes nothing, and its packed
 -- answer is its number
 pub record Refusals : Type 0 where
   pub number : (c : Call) (s : State) → onLent c s .answer .number ≡ refusalOf c s
-  pub is-2 : (c : Call) (s : State) → longFor c (s .unit) (s .memory) ≡ false → refusalOf c s ≡ 2
-  pub is-3 : (c : Call) (s : State) → longFor c (s .unit) (s .memory) ≡ true → isWellFormed (s .unit) ≡ false → refusalOf c s ≡ 3
-  pub is-1 : (c : Call) (s : State) → longFor c (s .unit) (s .memory) ≡ true → isWellFormed (s .unit) ≡ true → inRange c ≡ false → refusalOf c s ≡ 1
-  pub is-4 : (c : Call) (s : State) → longFor c (s .unit) (s .memory) ≡ true → isWellFormed (s .unit) ≡ true → inRange c ≡ true
+  pub is-5 : (c : Call) (s : State) → requestOk c ≡ false → refusalOf c s ≡ 5
+  pub is-2 : (c : Call) (s : State) → requestOk c ≡ true → longFor c (s .unit) (s .memory) ≡ false → refusalOf c s ≡ 2
+  pub is-3 : (c : Call) (s : State) → requestOk c ≡ true → longFor c (s .unit) (s .memory) ≡ true → isWellFormed (s .unit) ≡ false → refusalOf c s ≡ 3
+  pub is-1 : (c : Call) (s : State) → requestOk c ≡ true → longFor c (s .unit) (s .memory) ≡ true → isWellFormed (s .unit) ≡ true → inRange c ≡ false → refusalOf c s ≡ 1
+  pub is-4 : (c : Call) (s : State) → requestOk c ≡ true → longFor c (s .unit) (s .memory) ≡ true → isWellFormed (s .unit) ≡ true → inRange c ≡ true
       → isDrawing (s .unit) ≡ true → blocked c ≡ true → refusalOf c s ≡ 4
-  pub is-0 : (c : Call) (s : State) → longFor c (s .unit) (s .memory) ≡ true → isWellFormed (s .unit) ≡ true → inRange c ≡ true
+  pub is-0 : (c : Call) (s : State) → requestOk c ≡ true → longFor c (s .unit) (s .memory) ≡ true → isWellFormed (s .unit) ≡ true → inRange c ≡ true
       → (isDrawing (s .unit) ≡ false) ⊎ (blocked c ≡ false) → refusalOf c s ≡ 0
   pub refused : (c : Call) (s : State) → (onLent c s .answer .number ≡ 0 → ⊥) → onLent c s ≡ outcome (refusal (onLent c s .answer .number)) s
   pub exported-refused : (c : Call) (l : List ℕ) (m : Memory) → (onRecord c l m .answer .number ≡ 0 → ⊥) → exportedCall c l m ≡ exported (onRecord c l m .answer .number) l m
+
+-- for C: where an answer's parts stand in its packed number
+pub record PackedParts (a : Answer) : Type 0 where
+  pub number-at : a .number < 256 → packed a % 256 ≡ a .number
+  pub byte-at : a .number < 256 → a .byte < 256 → packed a / 256 % 256 ≡ a .byte
+  pub nmi-at : a .number < 256 → a .byte < 256 → packed a / 65536 % 256 ≡ bitByte (a .nmi)
+  pub looked-at : a .number < 256 → a .byte < 256 → a .looked < 256 → packed a / 16777216 % 256 ≡ a .looked
+  pub lines-at : a .number < 256 → a .byte < 256 → a .looked < 256 → packed a / 4294967296 ≡ a .lines
 
 -- DEMAND 2, the saved unit. Saved and read back it is the same unit; a well-formed record, read and saved again, is the same bytes;
 -- and no call makes an ill-formed unit of a well-formed one
@@ -50,13 +61,14 @@ pub record RoundTrips : Type 0 where
   pub stays-formed : (c : Call) (s : State) → isWellFormed (s .unit) ≡ true → isWellFormed (call c s .after .unit) ≡ true
 
 -- WHAT IS NOT LENT to a call is neither read nor touched.
--- What a call is lent of m, the rest empty: an access all but the line buffers, sprite DMA only OAM, a line or a run all
+-- What a call is lent of m, the rest empty: an access all but the line buffers, sprite DMA and a search only OAM, a line or a run all
 abbrev pub lentTo : Call → Memory → Memory
 lentTo (readCall l a) m = accessMemory (m .cells .left) (m .cells .right) (m .cells .nametables) (m .cells .oam) (m .cells .palette)
 lentTo (writeCall l a b) m = accessMemory (m .cells .left) (m .cells .right) (m .cells .nametables) (m .cells .oam) (m .cells .palette)
 lentTo (dmaCall l p) m = dmaMemory (m .cells .oam)
 lentTo (lineCall l) m = m
 lentTo (runCall l why n) m = m
+lentTo (searchCall l n) m = dmaMemory (m .cells .oam)
 
 -- o, with what was not lent put back from m
 abbrev pub restored : Call → Memory → Memory → Memory
@@ -65,6 +77,7 @@ restored (writeCall l a b) m o = withLines o (m .line) (m .colours)
 restored (dmaCall l p) m o = withCells m (withOam (m .cells) (o .cells .oam))
 restored (lineCall l) m o = o
 restored (runCall l why n) m o = o
+restored (searchCall l n) m o = withCells m (withOam (m .cells) (o .cells .oam))
 
 abbrev pub restores : Call → Memory → Outcome → Outcome
 restores c m o = outcome (o .answer) (state (o .after .unit) (restored c m (o .after .memory)))
@@ -79,7 +92,7 @@ pub record Frames : Type 0 where
 -- unit's own stays
 pub record Lending : Type 0 where
   pub lent-of : (l : Lent) (a b n : ℕ) (p : List ℕ)
-      → (lentOf (readCall l a) ≡ l) × (lentOf (writeCall l a b) ≡ l) × (lentOf (dmaCall l p) ≡ l) × (lentOf (lineCall l) ≡ l) × (lentOf (runCall l b n) ≡ l)
+      → (lentOf (readCall l a) ≡ l) × (lentOf (writeCall l a b) ≡ l) × (lentOf (dmaCall l p) ≡ l) × (lentOf (lineCall l) ≡ l) × (lentOf (runCall l b n) ≡ l) × (lentOf (searchCall l n) ≡ l)
   pub own-memory : (c : Call) (s : State) → lentOf c ≡ own → call c s ≡ (let o : Outcome = onLent c s in given (o .answer) (o .after) (o .after .memory))
   pub other-memory : (c : Call) (s : State) (m : Memory) → lentOf c ≡ other m
       → call c s ≡ (let o : Outcome = onLent c (state (s .unit) m) in given (o .answer) (state (o .after .unit) (s .memory)) (o .after .memory))
@@ -103,7 +116,8 @@ pub record DataCalls : Type 0 where
   pub data-dma : (l : Lent) (p : List ℕ) → dataCall (dmaCall l p) ≡ true
   pub data-write : (l : Lent) (a b : ℕ) → (portOf a ≡ 4) ⊎ (portOf a ≡ 7) → dataCall (writeCall l a b) ≡ true
   pub no-data-write : (l : Lent) (a b : ℕ) → (portOf a ≡ 4 → ⊥) → (portOf a ≡ 7 → ⊥) → dataCall (writeCall l a b) ≡ false
-  pub no-data : (l : Lent) (a why n : ℕ) → (dataCall (readCall l a) ≡ false) × (dataCall (lineCall l) ≡ false) × (dataCall (runCall l why n) ≡ false)
+  pub no-data : (l : Lent) (a why n : ℕ)
+      → (dataCall (readCall l a) ≡ false) × (dataCall (lineCall l) ≡ false) × (dataCall (runCall l why n) ≡ false) × (dataCall (searchCall l n) ≡ false)
 
 -- bytes are below 256, in a unit's record and in every memory, and finished colours are numbers of two bytes
 pub record HeldBytes : Type 0 where
@@ -121,6 +135,7 @@ pub record Arguments : Type 0 where
   pub fits-dma : (l : Lent) (p : List ℕ) → Fits (dmaCall l p) → LentFits l × AreBytes p
   pub fits-line : (l : Lent) → Fits (lineCall l) → LentFits l
   pub fits-run : (l : Lent) (why n : ℕ) → Fits (runCall l why n) → LentFits l × (why < 2) × (n < 65536)
+  pub fits-search : (l : Lent) (n : ℕ) → Fits (searchCall l n) → LentFits l × (n < 65536)
   pub fits-lent : (m : Memory) → LentFits (other m) → Held (state zeroUnit m)
   pub fits-all : (c : Call) (cs : List Call) → AllFit (c ∷ cs) → Fits c × AllFit cs
 
@@ -198,6 +213,37 @@ pub record ColourBytes (l : List ℕ) : Type 0 where
   pub bytes-long : length (numbersOf l) ≡ coloursLength → length l ≡ 2 * coloursLength
   pub bytes-same : (l′ : List ℕ) → length l ≡ length l′ → AreBytes l → AreBytes l′ → numbersOf l ≡ numbersOf l′ → l ≡ l′
 
+-- DOCUMENT 02, REQUEST 2. The place of the eighth sprite in range of line n
+abbrev pub IsEighth : ℕ → List ℕ → ℕ → ℕ → Type 0
+IsEighth c o n e = (countOf (covers c o n) e ≡ 7) × (covers c o n e ≡ true)
+
+-- the search, and what its steps come to. With fewer than eight in range the bit is not set. After the eighth, at e, byte 0 of sprite e + 1 is tried, byte 1
+-- of the next and so on, 3 being followed by 0: the first in range sets the bit, and is the last looked at; if there is none, the bit is not set.
+-- Set: eight in range stand before the last looked at. Not set: all 64 were looked at. Nine in a row, with none before: set at the ninth
+pub record Searches (c : ℕ) (o : List ℕ) (n : ℕ) : Type 0 where
+  pub few : countOf (covers c o n) 64 < 8 → overflows c o n ≡ false
+  pub sets : (e j : ℕ) → IsEighth c o n e → e + 1 + j < 64 → ((i : ℕ) → i < j → tried c o n (e + 1 + i) (i % 4) ≡ false) → tried c o n (e + 1 + j) (j % 4) ≡ true
+      → (overflows c o n ≡ true) × (lookedAt c o n ≡ e + 2 + j)
+  pub ends : (e : ℕ) → IsEighth c o n e → e < 64 → ((i : ℕ) → e + 1 + i < 64 → tried c o n (e + 1 + i) (i % 4) ≡ false) → overflows c o n ≡ false
+  pub set : overflows c o n ≡ true → (9 ≤ lookedAt c o n) × (8 ≤ countOf (covers c o n) (lookedAt c o n - 1))
+  pub not-set : overflows c o n ≡ false → lookedAt c o n ≡ 64
+  pub at-most : lookedAt c o n ≤ 64
+  pub nine : (i : ℕ) → i + 9 ≤ 64 → countOf (covers c o n) i ≡ 0 → ((j : ℕ) → j < 9 → covers c o n (i + j) ≡ true)
+      → (overflows c o n ≡ true) × (lookedAt c o n ≡ i + 9)
+
+-- the call: 5 for a line above 239, first; done it reports the search by control and OAM alone, and leaves unit and memory. A drawn line's
+-- status bit 5 is set by the search on that line. No other call looks at sprites
+pub record SearchCalls (s : State) : Type 0 where
+  pub search-5 : (l : Lent) (n : ℕ) → 240 ≤ n → onLent (searchCall l n) s ≡ outcome (refusal 5) s
+  pub search-0 : (l : Lent) (n : ℕ) → n < 240 → length (s .memory .cells .oam) ≡ oamLength → isWellFormed (s .unit) ≡ true
+      → onLent (searchCall l n) s ≡ outcome (lookedAnswer (lookedAt (s .unit .control) (s .memory .cells .oam) n) (s .unit)) s
+  pub search-keeps : (l : Lent) (n : ℕ) → onLent (searchCall l n) s .after ≡ s
+  pub line-overflow : s .unit .scanline < 240 → isRendering (s .unit) ≡ true
+      → bit 32 (oneLine s .unit .status) ≡ (bit 32 (s .unit .status) || overflows (s .unit .control) (s .memory .cells .oam) (s .unit .scanline))
+  pub line-off-keeps : s .unit .scanline < 240 → isRendering (s .unit) ≡ false → oneLine s .unit .status ≡ s .unit .status
+  pub looked-none : (l : Lent) (a b why n : ℕ) (p : List ℕ) → (onLent (readCall l a) s .answer .looked ≡ 0) × (onLent (writeCall l a b) s .answer .looked ≡ 0)
+      × (onLent (dmaCall l p) s .answer .looked ≡ 0) × (onLent (lineCall l) s .answer .looked ≡ 0) × (onLent (runCall l why n) s .answer .looked ≡ 0)
+
 -- DOCUMENT 02, REQUEST 10. The page of a quarter: byte k of it is the one that answers at $2000 + 1024 q + k, with q modulo 4
 pub record QuarterPages (d : Board) (n : List ℕ) (q : ℕ) : Type 0 where
   pub quarter-byte : length n ≡ nametableLength d → (k : ℕ) → k < nametablePage → at (quarterPart d n q) k ≡ nametableByte (d .wiring) n (8192 + 1024 * (q % 4) + k)
@@ -248,6 +294,7 @@ pub record Shown (d : Board) (n t : List ℕ) : Type 0 where
 
 pub record Theorems : Type 0 where
   pub refusals : Refusals
+  pub packed-parts : (a : Answer) → PackedParts a
   pub round-trips : RoundTrips
   pub frames : Frames
   pub lending : Lending
@@ -262,6 +309,8 @@ pub record Theorems : Type 0 where
   pub colours : (u : Ppu) (p : List ℕ) (n : ℕ) → Colours u p n
   pub coloured-lines : (s : State) → ColouredLines s
   pub colour-bytes : (l : List ℕ) → ColourBytes l
+  pub searches : (c : ℕ) (o : List ℕ) (n : ℕ) → Searches c o n
+  pub search-calls : (s : State) → SearchCalls s
   pub quarter-pages : (d : Board) (n : List ℕ) (q : ℕ) → QuarterPages d n q
   pub rows : (p t r : List ℕ) → Rows p t r
   pub pages : (r t p : List ℕ) → Pages r t p
