@@ -1,17 +1,19 @@
 -- The ways of each call, for `search`.
-use Prim.Native.Nat.{ℕ, _%_}
+use Prim.Native.Nat.{ℕ, _%_, _<_, _≤_}
 use mathlib.Core.Path.{_≡_, refl, sym, ap, _∙_}
 use mathlib.Core.Bool.{Bool, true, false, true≢false, _&&_}
 use mathlib.Core.List.{List}
-use lib.Dec.{eqb}
+use lib.Dec.{eqb, ltb}
 use lib.ListN.{length}
-use borrow.Author.Tests.{eqb-true, eq-eqb, ne-eqb}
+use native.Mathlib.Omega.{arith}
+use borrow.Author.Tests.{eqb-true, eq-eqb, ne-eqb, lt-ltb, le-ltb}
 use Rattle.model.specs.declared.Board.{Board}
 use Rattle.model.specs.declared.Ppu.{Ppu}
 use Rattle.model.specs.declared.Access.{Access}
 use Rattle.model.specs.Unit.{state, accessMemory, dmaMemory, video, VideoLengths, fresh, isWellFormed, isDrawing}
 use Rattle.model.specs.Record.{boardAt, boardOk, unitOf, recordOf}
-use Rattle.model.specs.Calls.{access, doneAnswer, refusedAccess, made, unmade, freshCall, loadCall, saved, saveCall, own, readCall, writeCall, dmaCall, Outcome, accessOutcome, dmaOutcome, accessSizes, dmaSizes, blockedRead, blockedWrite, order, accessRefusal, plainRefusal, refusalOf, readDone, writeDone, dmaDone, done, onLent}
+use Rattle.model.specs.Sprites.{lookedAt}
+use Rattle.model.specs.Calls.{access, doneAnswer, lookedAnswer, refusedAccess, made, unmade, freshCall, loadCall, saved, saveCall, own, readCall, writeCall, dmaCall, searchCall, Outcome, accessOutcome, dmaOutcome, accessSizes, dmaSizes, blockedRead, blockedWrite, order, accessRefusal, plainRefusal, refusalOf, readDone, writeDone, dmaDone, searchDone, done, onLent}
 use Rattle.model.proofs.Accepted.{is-refused, is-done, order-0, and-none, all5, form-long, is-made, is-unmade}
 
 -- making and saving a unit
@@ -58,7 +60,7 @@ module _ (d : Board) (l r n o p : ℕ) (s : Bool) (u : Ppu) (a : ℕ) (c : Bool)
     (hs : s ≡ accessSizes d l r n o p) (hk : k ≡ accessRefusal s u a c) (h : k ≡ 0) where
   sized : (eqb l 4096 ≡ true) × (eqb r 4096 ≡ true) × (eqb n 2048 ≡ true) × (eqb o 256 ≡ true) × (eqb p 32 ≡ true)
   unfolding accessRefusal
-  sized = all5 (eqb l 4096) (eqb r 4096) (eqb n 2048) (eqb o 256) (eqb p 32) (sym hs ∙ order-0 _ _ _ _ (sym hk ∙ h))
+  sized = all5 (eqb l 4096) (eqb r 4096) (eqb n 2048) (eqb o 256) (eqb p 32) (sym hs ∙ order-0 _ _ _ _ _ (sym hk ∙ h))
 
   pub long-oam : o ≡ 256
   long-oam = eqb-true o 256 (sized .3)
@@ -104,7 +106,7 @@ pub ruleset write-cases = (write-refused, write-done)
 module _ (u : Ppu) (o p : List ℕ) (s : Bool) (k : ℕ) (hs : s ≡ dmaSizes (length o) (length p)) (hk : k ≡ plainRefusal s u) where
   same-dma : k ≡ refusalOf (dmaCall own p) (state u (dmaMemory o))
   unfolding refusalOf plainRefusal
-  same-dma = hk ∙ rw hs (ap (order (dmaSizes (length o) (length p)) (isWellFormed u) true) (sym (and-none (isDrawing u))))
+  same-dma = hk ∙ rw hs (ap (order true (dmaSizes (length o) (length p)) (isWellFormed u) true) (sym (and-none (isDrawing u))))
 
   pub dma-refused : (x : Access) → (k ≡ 0 → ⊥) → x ≡ refusedAccess k u → dmaOutcome x o ≡ onLent (dmaCall own p) (state u (dmaMemory o))
   dma-refused x h e = ap (λ (y : Access). dmaOutcome y o) e ∙ is-refused (dmaCall own p) (state u (dmaMemory o)) k same-dma h
@@ -115,7 +117,7 @@ module _ (u : Ppu) (o p : List ℕ) (s : Bool) (k : ℕ) (hs : s ≡ dmaSizes (l
 module _ (u : Ppu) (o p : ℕ) (s : Bool) (k : ℕ) (hs : s ≡ dmaSizes o p) (hk : k ≡ plainRefusal s u) (h : k ≡ 0) where
   dma-sized : (eqb o 256 ≡ true) × (eqb p 256 ≡ true)
   unfolding plainRefusal
-  dma-sized = both (eqb o 256) (eqb p 256) (sym hs ∙ order-0 _ _ _ _ (sym hk ∙ h))
+  dma-sized = both (eqb o 256) (eqb p 256) (sym hs ∙ order-0 _ _ _ _ _ (sym hk ∙ h))
     where
       both : (a b : Bool) → a && b ≡ true → (a ≡ true) × (b ≡ true)
       both true b e = (refl, e)
@@ -128,3 +130,34 @@ module _ (u : Ppu) (o p : ℕ) (s : Bool) (k : ℕ) (hs : s ≡ dmaSizes o p) (h
   dma-page = eqb-true p 256 (dma-sized .1)
 
 pub ruleset dma-cases = (dma-refused, dma-done)
+
+-- a search: 5 for its line first
+module _ (u : Ppu) (n : ℕ) (o : List ℕ) (x : Access) where
+  pub search-1 : 239 < n → x ≡ refusedAccess 5 u → dmaOutcome x o ≡ onLent (searchCall own n) (state u (dmaMemory o))
+  search-1 gt e =
+      ap (λ (y : Access). dmaOutcome y o) e ∙ is-refused (searchCall own n) (state u (dmaMemory o)) 5 unknown (λ z. omega (arith, z))
+    where
+      five : (s w g d : Bool) → _≡_ {A = ℕ} 5 (order false s w g d)
+      five s w g d = unfold order in refl
+
+      unknown : 5 ≡ refusalOf (searchCall own n) (state u (dmaMemory o))
+      unknown = unfold refusalOf in rw (le-ltb n 240 (omega arith)) (five _ _ _ _)
+
+  module _ (le : n ≤ 239) (k : ℕ) (hk : k ≡ plainRefusal (eqb (length o) 256) u) where
+    same-search : k ≡ refusalOf (searchCall own n) (state u (dmaMemory o))
+    unfolding refusalOf plainRefusal
+    same-search = hk ∙ rw (lt-ltb n 240 (omega arith)) (ap (order true (eqb (length o) 256) (isWellFormed u) true) (sym (and-none (isDrawing u))))
+
+    pub search-2 : (k ≡ 0 → ⊥) → x ≡ refusedAccess k u → dmaOutcome x o ≡ onLent (searchCall own n) (state u (dmaMemory o))
+    search-2 h e = ap (λ (y : Access). dmaOutcome y o) e ∙ is-refused (searchCall own n) (state u (dmaMemory o)) k same-search h
+
+    pub search-3 : (q : ℕ) → k ≡ 0 → q ≡ lookedAt (u .control) o n → x ≡ access (lookedAnswer q u) u → dmaOutcome x o ≡ onLent (searchCall own n) (state u (dmaMemory o))
+    unfolding done searchDone
+    search-3 q h f e =
+        ap (λ (y : Access). dmaOutcome y o) (e ∙ ap (λ (i : ℕ). access (lookedAnswer i u) u) f) ∙ is-done (searchCall own n) (state u (dmaMemory o)) k same-search h
+
+pub search-oam : (u : Ppu) (o k : ℕ) → k ≡ plainRefusal (eqb o 256) u → k ≡ 0 → o ≡ 256
+unfolding plainRefusal
+search-oam u o k hk h = eqb-true o 256 (order-0 _ _ _ _ _ (sym hk ∙ h))
+
+pub ruleset search-cases = (search-1, search-2, search-3)

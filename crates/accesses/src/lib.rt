@@ -1,5 +1,5 @@
-// Public calls on a unit by value: fresh, load, save make and keep one; read, write, dma are its accesses. None has a `requires`: a call
-// refuses what it cannot take, in the order 2, 3, 1, 4, and a refused call leaves the unit, the record and every lent memory as they were.
+// Public calls on a unit by value: fresh, load, save make and keep one; read, write, dma are its accesses; search looks for overflow. None has a `requires`: a call
+// refuses what it cannot take, in the order 5, 2, 3, 1, 4, and a refused call leaves the unit, the record and every lent memory as they were.
 ghost use mathlib.Core.Path.{_≡_};
 ghost use Rattle.model.specs.Unit.{state, accessMemory, dmaMemory};
 ghost use Rattle.model.specs.Calls.{
@@ -13,6 +13,7 @@ ghost use Rattle.model.specs.Calls.{
   readCall,
   writeCall,
   dmaCall,
+  searchCall,
   own,
 };
 use model::Access;
@@ -126,4 +127,19 @@ pub fn dma(u: Ppu, oam: &mut [u8], page: &[u8]) -> Access
         return unit::refused(n, u);
     }
     ports::dma(u, oam, page)
+}
+
+// The search for overflow on a line from 0 to 239, as the unit's control byte and OAM stand: how many sprites it looks at. 5 for another line, first.
+pub fn search(u: Ppu, line: u16, oam: &[u8]) -> Access
+    ensures { λ r. ⌜ dmaOutcome r (now (oam .entry)) ≡ onLent (searchCall own line) (state u (dmaMemory (now (oam .entry)))) ⌝ }
+{
+    if 239 < line {
+        return unit::refused(5, u);
+    }
+    let n = refusals::plain_refusal(oam.len() == 256, u);
+    if n != 0 {
+        return unit::refused(n, u);
+    }
+    let found = choice::search(u.control, line as u8, oam);
+    unit::looked(found.looked, u)
 }

@@ -10,9 +10,9 @@ use lib.ListN.{take}
 use lib.Seq.{take-all}
 use Rattle.model.specs.Unit.{bit}
 use Rattle.model.specs.Line.{tab}
-use Rattle.model.specs.Sprites.{height, covers, placesOf, countOf, overflows}
+use Rattle.model.specs.Sprites.{height, covers, placesOf, countOf}
 use Rattle.choice.specs.Distance.{distanceAt, isFrom, near}
-use Rattle.choice.proofs.Places.{distance-in, distance-out, from-in, from-under, from-past, length-places, count-covers, eight-shown}
+use Rattle.choice.proofs.Places.{distance-in, distance-out, from-in, from-under, from-past, length-places, eight-shown}
 
 module _ (c : ℕ) (b : Bool) (e : b ≡ bit 32 c) where
   pub height-1 : b ≡ true → 16 ≡ height c
@@ -49,17 +49,13 @@ module _ (n r : ℕ) where
 pub ruleset eight-cases = (eight-1, eight-2)
 
 module _ (c n h : ℕ) (o d : List ℕ) (e : d ≡ tab (distanceAt n o) 64) (g : h ≡ height c) where
-  pub choose-1 : (m : ℕ) → m ≡ countOf (near d 0 h) 64 → ltb 8 m ≡ overflows c o n
-  unfolding overflows
-  choose-1 m f = rw (f, g, count-covers c n o d e)
-
-  pub choose-2 : (s : ℕ) → s ≡ countOf (near d 1 h) 64 → s ≡ 0 → [] ≡ cond (eqb n 0) [] (take 8 (placesOf (covers c o (n - 1)) 64))
-  choose-2 s f z =
+  pub listed-1 : (s : ℕ) → s ≡ countOf (near d 1 h) 64 → s ≡ 0 → [] ≡ cond (eqb n 0) [] (take 8 (placesOf (covers c o (n - 1)) 64))
+  listed-1 s f z =
       let none : 0 ≡ countOf (near d 1 (height c)) 64 = rw g at (sym z ∙ f) in
       eight-shown c n o d e 0 0 [] none refl (take-all 0 (placesOf (near d 1 (height c)) 64) (omega (arith, length-places (near d 1 (height c)) 64)))
 
-  pub choose-3 : (s k : ℕ) (l : List ℕ) → s ≡ countOf (near d 1 h) 64 → take (countOf (near d 1 h) 64) l ≡ placesOf (near d 1 h) 64 → k ≡ cond (ltb 8 s) 8 s
+  pub listed-2 : (s k : ℕ) (l : List ℕ) → s ≡ countOf (near d 1 h) 64 → take (countOf (near d 1 h) 64) l ≡ placesOf (near d 1 h) 64 → k ≡ cond (ltb 8 s) 8 s
       → take k l ≡ cond (eqb n 0) [] (take 8 (placesOf (covers c o (n - 1)) 64))
-  choose-3 s k l f z m = eight-shown c n o d e s k l (rw g at f) m (rw g at (rw (sym f) at z))
+  listed-2 s k l f z m = eight-shown c n o d e s k l (rw g at f) m (rw g at (rw (sym f) at z))
 
-pub ruleset choose-cases = (choose-1, choose-2, choose-3)
+pub ruleset listed-cases = (listed-1, listed-2)

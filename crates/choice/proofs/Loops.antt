@@ -16,7 +16,7 @@ use Rattle.model.specs.Line.{tab}
 use Rattle.model.specs.Sprites.{oamAt, placesOf, countOf}
 use Rattle.model.proofs.Tab.{tab-none, tab-more, tab-done, getD-tab, tab-cong}
 use Rattle.model.proofs.Scroll.{lt-or-ge}
-use Rattle.choice.specs.Distance.{distanceOf, distanceAt, distanceIn, isFrom, near, markOf, Marks, isMarked, orOf}
+use Rattle.choice.specs.Distance.{distanceOf, distanceAt, lowIn, distanceFrom, isFrom, near, markOf, Marks, isMarked, orOf}
 use Rattle.choice.proofs.Places.{count-le, count-more, count-cong, places-more, places-cong, y-at}
 
 -- the first i values of g are stored
@@ -35,11 +35,15 @@ module _ (g : ℕ → ℕ) (d₀ d : List ℕ) (i : ℕ) (m : Filled g d₀ d i)
   pub filled-done : 64 ≤ i → d ≡ tab g 64
   filled-done ge = tab-done g i 64 d₀ d (omega arith) h (m .stored)
 
--- by distances, and by marks
-pub measured-more : (n : ℕ) (w d₀ d : List ℕ) (i : ℕ) → Filled (distanceIn n w) d₀ d i → length d₀ ≡ 64 → (y v : ℕ) → i < 64 → y ≡ getD w i 0 % 256 → v ≡ distanceOf n y
-    → Filled (distanceIn n w) d₀ (set d i v) (i + 1)
-unfolding distanceIn
-measured-more n w d₀ d i m h y v lt z e = filled-more (distanceIn n w) d₀ d i m h v lt (rw z at e)
+-- by Y bytes, by distances, and by marks
+pub low-more : (w y₀ y : List ℕ) (i : ℕ) → Filled (lowIn w) y₀ y i → length y₀ ≡ 64 → (v : ℕ) → i < 64 → v ≡ getD w i 0 % 256 → Filled (lowIn w) y₀ (set y i v) (i + 1)
+unfolding lowIn
+low-more w y₀ y i m h v lt e = filled-more (lowIn w) y₀ y i m h v lt e
+
+pub measured-more : (n : ℕ) (y d₀ d : List ℕ) (i : ℕ) → Filled (distanceFrom n y) d₀ d i → length d₀ ≡ 64 → (v : ℕ) → i < 64 → v ≡ distanceOf n (getD y i 0)
+    → Filled (distanceFrom n y) d₀ (set d i v) (i + 1)
+unfolding distanceFrom
+measured-more n y d₀ d i m h v lt e = filled-more (distanceFrom n y) d₀ d i m h v lt e
 
 pub marked-more : (d : List ℕ) (from t : ℕ) (m₀ m : List ℕ) (i : ℕ) → Filled (markOf d from t) m₀ m i → length m₀ ≡ 64 → (v : ℕ) → i < 64
     → v ≡ cond (isFrom from t (getD d i 0)) 1 0 → Filled (markOf d from t) m₀ (set m i v) (i + 1)
@@ -77,12 +81,12 @@ pub ruleset worded-loop = (worded-start, worded-more, worded-done)
 pub word-low : (o : List ℕ) (i a b c d : ℕ) → a ≡ getD o (4 * i) 0 → a < 256 → (a + b * 256 + c * 65536 + d * 16777216) % 256 ≡ oamAt o i 0
 word-low o i a b c d e lt = let z : (a + b * 256 + c * 65536 + d * 16777216) % 256 ≡ a = omega arith in z ∙ e ∙ y-at o i
 
--- so the distances out of the words are those out of OAM
-pub worded-distances : (n : ℕ) (o w d : List ℕ) → ((j : ℕ) → j < 64 → getD w j 0 % 256 ≡ oamAt o j 0) → d ≡ tab (distanceIn n w) 64 → d ≡ tab (distanceAt n o) 64
-unfolding distanceIn distanceAt
-worded-distances n o w d h e = e ∙ tab-cong (distanceIn n w) (distanceAt n o) 64 (λ k lt. rw (h k lt))
+-- so the distances from the words' Y bytes are those out of OAM
+pub worded-distances : (n : ℕ) (o w y d : List ℕ) → ((j : ℕ) → j < 64 → getD w j 0 % 256 ≡ oamAt o j 0) → y ≡ tab (lowIn w) 64 → d ≡ tab (distanceFrom n y) 64 → d ≡ tab (distanceAt n o) 64
+unfolding lowIn distanceFrom distanceAt
+worded-distances n o w y d h f e = e ∙ tab-cong (distanceFrom n y) (distanceAt n o) 64 (λ k lt. rw (f, getD-tab (lowIn w) 64 k lt, h k lt))
 
-pub ruleset filled-loop = (filled-start, measured-more, marked-more, filled-done)
+pub ruleset filled-loop = (filled-start, low-more, measured-more, marked-more, filled-done)
 
 -- of the first i sprites n are near
 pub record Counted (d : List ℕ) (from h n i : ℕ) : Type 0 where

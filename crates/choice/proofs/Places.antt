@@ -57,6 +57,18 @@ unfolding countOf
 count-cong f g zero h = refl
 count-cong f g (suc n) h = rw (count-cong f g n (λ i lt. h i (omega arith)), h n (omega arith))
 
+-- what f has g has too
+pub count-within : (f g : ℕ → Bool) (n : ℕ) → ((i : ℕ) → f i ≡ true → g i ≡ true) → countOf f n ≤ countOf g n
+unfolding countOf
+count-within f g zero h = omega arith
+count-within f g (suc n) h = by-test (f n) (g n) (h n) (count-within f g n h)
+  where
+    by-test : (a b : Bool) → (a ≡ true → b ≡ true) → countOf f n ≤ countOf g n → cond a (countOf f n + 1) (countOf f n) ≤ cond b (countOf g n + 1) (countOf g n)
+    by-test true true h k = omega arith
+    by-test true false h k = absurd (false≢true (h refl))
+    by-test false true h k = omega arith
+    by-test false false h k = k
+
 pub places-cong : (f g : ℕ → Bool) (n : ℕ) → ((i : ℕ) → i < n → f i ≡ g i) → placesOf f n ≡ placesOf g n
 unfolding placesOf
 places-cong f g zero h = refl
@@ -154,7 +166,7 @@ unfolding isFrom
 from-past from h d a b = rw (le-leb from d a, le-ltb (d - from) h b)
 
 -- the h distances from `from` are those at which the sprite covers line n - from
-from-covers : (from n y h : ℕ) → h ≤ 16 → from ≤ 1 → from ≤ n → isFrom from h (distanceOf n y) ≡ (leb y (n - from) && ltb (n - from) (y + h))
+pub from-covers : (from n y h : ℕ) → h ≤ 16 → from ≤ 1 → from ≤ n → isFrom from h (distanceOf n y) ≡ (leb y (n - from) && ltb (n - from) (y + h))
 from-covers from n y h k f g =
     ⊎-elim
     (λ (out : n < y). rw (← distance-out n y out, from-past from h 255 (omega arith) (omega arith), lt-leb y (n - from) (omega arith)))
@@ -188,18 +200,13 @@ module _ (c n : ℕ) (o d : List ℕ) (e : d ≡ tab (distanceAt n o) 64) where
   unfolding distanceAt
   each i lt = rw e (getD-tab (distanceAt n o) 64 i lt)
 
-  near-covers : (from i : ℕ) → i < 64 → from ≤ 1 → from ≤ n → near d from (height c) i ≡ covers c o (n - from) i
+  pub near-covers : (from i : ℕ) → i < 64 → from ≤ 1 → from ≤ n → near d from (height c) i ≡ covers c o (n - from) i
   unfolding near covers
   near-covers from i lt f g = rw (each i lt) (from-covers from n (oamAt o i 0) (height c) (height-le c) f g)
 
   near-none : (i : ℕ) → i < 64 → n ≡ 0 → near d 1 (height c) i ≡ false
   unfolding near
   near-none i lt z = rw (each i lt, z) (from-none (oamAt o i 0) (height c) (height-le c))
-
-  pub count-covers : countOf (near d 0 (height c)) 64 ≡ countOf (covers c o n) 64
-  count-covers =
-      let z : n - 0 ≡ n = omega arith in
-      count-cong (near d 0 (height c)) (covers c o n) 64 (λ i lt. rw z at (near-covers 0 i lt (omega arith) (omega arith)))
 
   pub places-shown : placesOf (near d 1 (height c)) 64 ≡ cond (eqb n 0) [] (placesOf (covers c o (n - 1)) 64)
   places-shown =

@@ -15,9 +15,12 @@ distanceOf n y = cond (leb y n) (n - y) 255
 unfoldable pub distanceAt : ℕ → List ℕ → ℕ → ℕ
 distanceAt n o i = distanceOf n (oamAt o i 0)
 
--- how far line n is below the Y byte in word i
-unfoldable pub distanceIn : ℕ → List ℕ → ℕ → ℕ
-distanceIn n w i = distanceOf n (getD w i 0 % 256)
+-- the Y byte in word i; and how far line n is below Y byte i
+unfoldable pub lowIn : List ℕ → ℕ → ℕ
+lowIn w i = getD w i 0 % 256
+
+unfoldable pub distanceFrom : ℕ → List ℕ → ℕ → ℕ
+distanceFrom n y i = distanceOf n (getD y i 0)
 
 -- d is one of the h numbers from `from`
 unfoldable pub isFrom : ℕ → ℕ → ℕ → Bool

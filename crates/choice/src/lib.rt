@@ -1,18 +1,27 @@
-// The choice of the eight sprites that a line shows, and overflow. Inner functions, not public calls.
-// choose. Within: height, distance, wide32, lowest, word, words, from_words, distances, near_one, count, marks, any8, list_eight, list_some, list_marked, list_places, at_most_eight.
+// The choice of the eight sprites that a line shows, and the search for overflow. Inner functions, not public calls.
+// choose, search. Within: height; distances: distance, wide32, lowest, word, words, y_bytes, from_y, distances, near_one, count; the list: marks,
+// any8, list_eight, list_some, list_marked, list_places, at_most_eight, listed; the search: eighth, tried_one, on_diagonal, tried_some, skip, next_byte,
+// diagonal, searched, is_over.
 ghost use mathlib.Core.Path.{_≡_};
-ghost use mathlib.Core.Bool.{cond};
+ghost use mathlib.Core.Bool.{cond, true};
 ghost use mathlib.Core.List.{[]};
-ghost use Prim.Native.Nat.{ℕ, _+_, _-_, _%_, _<_, _≤_};
+ghost use Prim.Native.Nat.{ℕ, _+_, _-_, _*_, _%_, _<_, _≤_};
 ghost use lib.Dec.{eqb, ltb};
 ghost use lib.ListN.{length, getD, take};
-ghost use Rattle.model.specs.Line.{tab};
-ghost use Rattle.model.specs.Sprites.{oamAt, height as heightOf, covers, placesOf, countOf, overflows};
-ghost use Rattle.choice.specs.Distance.{distanceOf, distanceAt, distanceIn, isFrom, near, markOf, isMarked, Marks, orOf};
+ghost use Rattle.model.specs.Line.{tab, anyOf};
+ghost use Rattle.model.specs.Sprites.{oamAt, height as heightOf, isInRange, covers, placesOf, countOf, overflows, lookedAt};
+ghost use Rattle.choice.specs.Distance.{distanceOf, distanceAt, lowIn, distanceFrom, isFrom, near, markOf, isMarked, Marks, orOf};
+ghost use Rattle.choice.specs.Overflow.{onDiagonal, hits, Eight};
 
-// How many sprites the line shows, at most eight, and whether more than eight cover it.
+// How many sprites the line shows, at most eight, and whether the search sets the overflow bit.
 pub struct Choice {
     pub count: usize,
+    pub over: bool,
+}
+
+// What the search for overflow finds: how many sprites it looked at, and whether it set the bit.
+pub struct Found {
+    pub looked: u8,
     pub over: bool,
 }
 
@@ -67,14 +76,26 @@ fn words(oam: &[u8], w: &mut [u32])
     }
 }
 
-// The distance of line n from each sprite's Y byte, out of the sprites' words.
-fn from_words(n: u8, w: &[u32], d: &mut [u8])
-    requires { ⌜ (length (now w) ≡ 64) × (length (now d) ≡ 64) ⌝ }
-    ensures { λ _. ⌜ now (d .exit) ≡ tab (distanceIn n (now (w .entry))) 64 ⌝ }
+// The sprites' Y bytes, out of their words. In a loop of its own, so that the compiler packs sixteen at a time.
+fn y_bytes(w: &[u32], y: &mut [u8])
+    requires { ⌜ (length (now w) ≡ 64) × (length (now y) ≡ 64) ⌝ }
+    ensures { λ _. ⌜ now (y .exit) ≡ tab (lowIn (now (w .entry))) 64 ⌝ }
 {
     let mut i = 0;
     while i < 64 {
-        d[i] = distance(n, lowest(w[i]));
+        y[i] = lowest(w[i]);
+        i += 1;
+    }
+}
+
+// The distance of line n from each Y byte.
+fn from_y(n: u8, y: &[u8], d: &mut [u8])
+    requires { ⌜ (length (now y) ≡ 64) × (length (now d) ≡ 64) ⌝ }
+    ensures { λ _. ⌜ now (d .exit) ≡ tab (distanceFrom n (now (y .entry))) 64 ⌝ }
+{
+    let mut i = 0;
+    while i < 64 {
+        d[i] = distance(n, y[i]);
         i += 1;
     }
 }
@@ -86,7 +107,9 @@ fn distances(n: u8, oam: &[u8], d: &mut [u8])
 {
     let mut w = [0u32; 64];
     words(oam, &mut w);
-    from_words(n, &w, d);
+    let mut y = [0u8; 64];
+    y_bytes(&w, &mut y);
+    from_y(n, &y, d);
 }
 
 // 1 if the distance d is one of the h numbers from `from`, else 0.
@@ -198,24 +221,178 @@ fn at_most_eight(n: u8) -> usize
     if 8 < n { 8 } else { bits::wide(n) }
 }
 
-// The sprites that line n shows, in OAM order, at the front of `list`: line n is 1 to h below their Y byte, so on line 0 there is none.
-// Overflow: line n is 0 to h - 1 below the Y byte of more than eight.
+// The sprites that line n shows, out of its distances, in OAM order, at the front of `list`: line n is 1 to h below their Y byte, so on line 0
+// there is none. How many.
+fn listed(control: u8, n: u8, oam: &[u8], d: &[u8], list: &mut [u8]) -> usize
+    requires { ⌜ (length (now d) ≡ 64) × (length (now list) ≡ 65) × (now d ≡ tab (distanceAt n (now oam)) 64) ⌝ }
+    ensures { λ r. ⌜ (r ≤ 8) × (take r (now (list .exit)) ≡ cond (eqb n 0) [] (take 8 (placesOf (covers control (now (oam .entry)) (n - 1)) 64))) ⌝ }
+{
+    let h = height(control);
+    let shown = count(d, 1, h);
+    if shown == 0 {
+        return 0;
+    }
+    list_places(d, 1, h, list);
+    at_most_eight(shown)
+}
+
+// The place of the eighth sprite whose distance is below h, where there are eight.
+fn eighth(d: &[u8], h: u8) -> usize
+    requires { ⌜ (length (now d) ≡ 64) × (8 ≤ countOf (near (now d) 0 h) 64) ⌝ }
+    ensures { λ r. ⌜ (r < 64) × (countOf (near (now (d .entry)) 0 h) r ≡ 7) × (near (now (d .entry)) 0 h r ≡ true) ⌝ }
+{
+    let mut k = 0u8;
+    let mut i = 0;
+    while i < 64 {
+        let m = k + near_one(d[i], 0, h);
+        if 7 < m {
+            return i;
+        }
+        k = m;
+        i += 1;
+    }
+    i
+}
+
+// 1 if the byte y, tried as a Y byte, is in range of line n, else 0.
+fn tried_one(n: u8, h: u8, y: u8) -> u8
+    requires { ⌜ h ≤ 16 ⌝ }
+    ensures { λ r. ⌜ (r ≡ cond (isInRange h n y) 1 0) × (r ≤ 1) ⌝ }
+{
+    near_one(distance(n, y), 0, h)
+}
+
+// 1 if, after byte 0 of a sprite, the byte at place j behind it is one of those that are tried: byte 1 of the next sprite, and so on. Else 0.
+fn on_diagonal(j: usize) -> u8
+    ensures { λ r. ⌜ (r ≡ cond (onDiagonal j) 1 0) × (r ≤ 1) ⌝ }
+{
+    let sprite = bits::low(j >> 2, 2);
+    let byte = bits::low(j, 2);
+    if sprite == byte { 1 } else { 0 }
+}
+
+// 1 if one of those bytes of `size` sprites, from byte 0 of sprite i on, is in range of line n, else 0. All bytes are looked at, in vectors.
+fn tried_some(n: u8, h: u8, oam: &[u8], i: usize, size: usize) -> u8
+    requires { ⌜ (h ≤ 16) × (length (now oam) ≡ 256) × (i + size ≤ 64) ⌝ }
+    ensures { λ r. ⌜ r ≡ cond (anyOf (hits h n (now (oam .entry)) i) (4 * size)) 1 0 ⌝ }
+{
+    let mut any = 0u8;
+    let mut j = 0;
+    while j < 4 * size {
+        any = any | (tried_one(n, h, oam[4 * i + j]) & on_diagonal(j));
+        j += 1;
+    }
+    any
+}
+
+// Where eight are found, sprites that do not set the bit are passed over, `size` at a time.
+fn skip(control: u8, n: u8, oam: &[u8], from: usize, size: usize) -> usize
+    requires { ⌜ (length (now oam) ≡ 256) × Eight control (now oam) n from × (0 < size) × (size ≤ 16) × (size % 4 ≡ 0) ⌝ }
+    ensures { λ r. ⌜ Eight control (now (oam .entry)) n r ⌝ }
+{
+    let h = height(control);
+    let mut i = from;
+    while i + size <= 64 {
+        let some = tried_some(n, h, oam, i, size);
+        if 0 < some {
+            return i;
+        }
+        i += size;
+    }
+    i
+}
+
+// The byte that is tried after byte b, of the next sprite.
+fn next_byte(b: usize) -> usize
+    requires { ⌜ b < 4 ⌝ }
+    ensures { λ r. ⌜ (r ≡ (b + 1) % 4) × (r < 4) ⌝ }
+{
+    if b < 3 { b + 1 } else { 0 }
+}
+
+// The search from sprite `from` on, where eight are found: byte 0 of it, byte 1 of the next, and so on, up to the first in range.
+fn diagonal(control: u8, n: u8, oam: &[u8], from: usize) -> Found
+    requires { ⌜ (length (now oam) ≡ 256) × Eight control (now oam) n from ⌝ }
+    ensures { λ r. ⌜ (r .looked ≡ lookedAt control (now (oam .entry)) n) × (r .over ≡ overflows control (now (oam .entry)) n) ⌝ }
+{
+    let h = height(control);
+    let mut i = from;
+    let mut b = 0;
+    while i < 64 {
+        let y = tried_one(n, h, oam[4 * i + b]);
+        if 0 < y {
+            return Found {
+                looked: (i + 1) as u8,
+                over: true,
+            };
+        }
+        i += 1;
+        b = next_byte(b);
+    }
+    Found {
+        looked: 64,
+        over: false,
+    }
+}
+
+// The search for line n, out of its distances: with fewer than eight in range it looks at all and sets nothing.
+fn searched(control: u8, n: u8, oam: &[u8], d: &[u8]) -> Found
+    requires { ⌜ (length (now oam) ≡ 256) × (length (now d) ≡ 64) × (now d ≡ tab (distanceAt n (now oam)) 64) ⌝ }
+    ensures { λ r. ⌜ (r .looked ≡ lookedAt control (now (oam .entry)) n) × (r .over ≡ overflows control (now (oam .entry)) n) ⌝ }
+{
+    let h = height(control);
+    if count(d, 0, h) < 8 {
+        return Found {
+            looked: 64,
+            over: false,
+        };
+    }
+    let k = eighth(d, h);
+    let sixteens = skip(control, n, oam, k + 1, 16);
+    let fours = skip(control, n, oam, sixteens, 4);
+    diagonal(control, n, oam, fours)
+}
+
+// The search for overflow on line n.
+pub fn search(control: u8, n: u8, oam: &[u8]) -> Found
+    requires { ⌜ length (now oam) ≡ 256 ⌝ }
+    ensures { λ r. ⌜ (r .looked ≡ lookedAt control (now (oam .entry)) n) × (r .over ≡ overflows control (now (oam .entry)) n) ⌝ }
+{
+    let mut d = [0u8; 64];
+    distances(n, oam, &mut d);
+    searched(control, n, oam, &d)
+}
+
+// Whether the search for line n sets the overflow bit, out of its distances. With fewer than eight of them from 0 to h it does not.
+fn is_over(control: u8, n: u8, oam: &[u8], d: &[u8], close: u8) -> bool
+    requires { ⌜ (length (now oam) ≡ 256) × (length (now d) ≡ 64) × (now d ≡ tab (distanceAt n (now oam)) 64) × (close ≡ countOf (near (now d) 0 (heightOf control + 1)) 64) ⌝ }
+    ensures { λ r. ⌜ r ≡ overflows control (now (oam .entry)) n ⌝ }
+{
+    if close < 8 {
+        return false;
+    }
+    let found = searched(control, n, oam, d);
+    found.over
+}
+
+// The sprites that line n shows, in OAM order, at the front of `list`, and whether the search for line n sets the overflow bit. Where no distance is from 0
+// to h there is neither.
 pub fn choose(control: u8, n: u8, oam: &[u8], list: &mut [u8]) -> Choice
     requires { ⌜ (length (now oam) ≡ 256) × (length (now list) ≡ 65) ⌝ }
     ensures { λ r. ⌜ (r .over ≡ overflows control (now (oam .entry)) n) × (r .count ≤ 8)
         × (take (r .count) (now (list .exit)) ≡ cond (eqb n 0) [] (take 8 (placesOf (covers control (now (oam .entry)) (n - 1)) 64))) ⌝ }
 {
-    let h = height(control);
     let mut d = [0u8; 64];
     distances(n, oam, &mut d);
-    let over = 8 < count(&d, 0, h);
-    let shown = count(&d, 1, h);
-    if shown == 0 {
-        return Choice { count: 0, over };
+    let h = height(control);
+    let close = count(&d, 0, h + 1);
+    if close == 0 {
+        return Choice {
+            count: 0,
+            over: false,
+        };
     }
-    list_places(&d, 1, h, list);
-    Choice {
-        count: at_most_eight(shown),
-        over,
-    }
+    let over = is_over(control, n, oam, &d, close);
+    let count = listed(control, n, oam, &d, list);
+    Choice { count, over }
 }

@@ -170,14 +170,18 @@ module _ (c : ℕ) (o : List ℕ) (n : ℕ) where
     unfolding lookedAt
     past-looked = ap (λ (s : Look). s .looked) e
 
-  -- THE DIAGONAL after the eighth, at e
+  -- THE DIAGONAL, from byte 0 of sprite k on: none of j bytes is in range
+  pub looks-along : (k : ℕ) → looksOf c o n k ≡ stands k 0 8 → (j : ℕ) → ((i : ℕ) → i < j → tried c o n (k + i) (i % 4) ≡ false) → looksOf c o n (k + j) ≡ stands (k + j) (j % 4) 8
+  looks-along k e zero f = rw (add-zero k) e
+  looks-along k e (suc j) f =
+      let z : k + suc j ≡ k + j + 1 = omega arith in
+      let b : suc j % 4 ≡ (j % 4 + 1) % 4 = omega arith in
+      rw (z, b) (looks-on (k + j) (j % 4) (looks-along k e j (λ i l. f i (omega arith))) (f j (omega arith)))
+
+  -- after the eighth, at e
   module _ (e : ℕ) (h : IsEighth c o n e) where
     along : (j : ℕ) → ((i : ℕ) → i < j → tried c o n (e + 1 + i) (i % 4) ≡ false) → looksOf c o n (e + 1 + j) ≡ stands (e + 1 + j) (j % 4) 8
-    along zero f = let z : e + 1 + 0 ≡ e + 1 = omega arith in rw z (looks-eight e h)
-    along (suc j) f =
-        let z : e + 1 + suc j ≡ e + 1 + j + 1 = omega arith in
-        let b : suc j % 4 ≡ (j % 4 + 1) % 4 = omega arith in
-        rw (z, b) (looks-on (e + 1 + j) (j % 4) (along j (λ i l. f i (omega arith))) (f j (omega arith)))
+    along = looks-along (e + 1) (looks-eight e h)
 
     sets : (j : ℕ) → e + 1 + j < 64 → ((i : ℕ) → i < j → tried c o n (e + 1 + i) (i % 4) ≡ false) → tried c o n (e + 1 + j) (j % 4) ≡ true
         → (overflows c o n ≡ true) × (lookedAt c o n ≡ e + 2 + j)

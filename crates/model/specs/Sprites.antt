@@ -17,13 +17,13 @@ oamAt o i k = getD o (4 * i + k) 0
 unfoldable pub height : ℕ → ℕ
 height c = cond (bit 32 c) 16 8
 
--- the Y byte y is in range of line n: y ≤ n < y + h
+-- with height h the Y byte y is in range of line n: y ≤ n < y + h
 abbrev pub isInRange : ℕ → ℕ → ℕ → Bool
-isInRange c n y = leb y n && ltb n (y + height c)
+isInRange h n y = leb y n && ltb n (y + h)
 
 -- sprite i is. On line L it is drawn if this holds of n = L - 1
 unfoldable pub covers : ℕ → List ℕ → ℕ → ℕ → Bool
-covers c o n i = isInRange c n (oamAt o i 0)
+covers c o n i = isInRange (height c) n (oamAt o i 0)
 
 -- of the sprites below n those that f has, in OAM order; and how many
 unfoldable pub placesOf : (ℕ → Bool) → ℕ → List ℕ
@@ -87,9 +87,9 @@ spriteZeroOn c l r o n p = cond (ltb 0 n && covers c o (n - 1) 0) (shade (fetche
 unfoldable pub spriteShown : ℕ → ℕ → ℕ → ℕ
 spriteShown mask p s = cond (bit 16 mask && (leb 8 p || bit 4 mask)) s 0
 
--- OVERFLOW on line n, as the chip searches. Byte k of sprite i tried as a Y byte: y ≤ n < y + h
+-- OVERFLOW on line n, as the chip searches (document 02, request 2). Byte k of sprite i, tried as a Y byte, is in range
 unfoldable pub tried : ℕ → List ℕ → ℕ → ℕ → ℕ → Bool
-tried c o n i k = isInRange c n (oamAt o i k)
+tried c o n i k = isInRange (height c) n (oamAt o i k)
 
 -- where the search stands: the sprites looked at, and so the number of the next; which of its bytes is tried; the sprites found; the bit
 pub record Look : Type 0 where

@@ -151,10 +151,10 @@ pub ruleset blocked-cases = (blocked-1, blocked-2)
 
 -- the packed answer, and the record after a call
 module _ (a : Answer) (r : ℕ) where
-  pub pack-1 : a .nmi ≡ true → r ≡ a .number + a .byte * 256 + a .lines * 4294967296 + 65536 → r ≡ packed a
+  pub pack-1 : a .nmi ≡ true → r ≡ a .number + a .byte * 256 + a .looked * 16777216 + a .lines * 4294967296 + 65536 → r ≡ packed a
   pack-1 p e = rw p (omega (arith, e))
 
-  pub pack-2 : a .nmi ≡ false → r ≡ a .number + a .byte * 256 + a .lines * 4294967296 → r ≡ packed a
+  pub pack-2 : a .nmi ≡ false → r ≡ a .number + a .byte * 256 + a .looked * 16777216 + a .lines * 4294967296 → r ≡ packed a
   pack-2 p e = rw p (omega (arith, e))
 
 pub ruleset pack-cases = (pack-1, pack-2)

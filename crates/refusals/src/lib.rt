@@ -1,6 +1,6 @@
 // What the public calls share: the numbers of their refusals, and what an exported call leaves of its answer. Inner functions.
 // zero_board, unmade; lengths: access_sizes, dma_sizes, line_sizes; refusals: record_refusal, access_refusal, plain_refusal, blocked_read;
-// the record and the packed answer: finish.
+// the record and the packed answer: pack, finish.
 ghost use mathlib.Core.Path.{_≡_};
 ghost use mathlib.Core.Bool.{cond};
 ghost use Rattle.model.specs.Unit.{zeroUnit};
@@ -177,11 +177,14 @@ pub fn blocked_read(address: u16) -> bool
     port == 7
 }
 
-// Bits 0-7 number, 8-15 byte, 16 NMI level, 32-63 line count.
-fn pack(a: Answer) -> u64
+// Bits 0-7 number, 8-15 byte, 16 NMI level, 24-31 sprites looked at, 32-63 line count.
+pub fn pack(a: Answer) -> u64
     ensures { λ r. ⌜ r ≡ packed a ⌝ }
 {
-    let low = a.number as u64 + a.byte as u64 * 256 + a.lines as u64 * 4294967296;
+    let low = a.number as u64
+        + a.byte as u64 * 256
+        + a.looked as u64 * 16777216
+        + a.lines as u64 * 4294967296;
     if a.nmi {
         return low + 65536;
     }

@@ -12,7 +12,7 @@ use Rattle.model.specs.declared.Access.{Access}
 use Rattle.model.specs.Colours.{numbersOf}
 use Rattle.model.specs.Unit.{state, lineMemory, isWellFormed, isDrawing}
 use Rattle.model.specs.Line.{oneLine, linesRun, nmiCount, lineCount}
-use Rattle.model.specs.Calls.{access, doneAnswer, refusedAccess, own, Call, lineCall, runCall, Outcome, outcome, lineOutcome, accessSizes, lineSizes, inRange, blocked, order, plainRefusal, longFor, refusalOf, lineDone, runDone, done, onLent}
+use Rattle.model.specs.Calls.{access, doneAnswer, refusedAccess, own, Call, lineCall, runCall, Outcome, outcome, lineOutcome, accessSizes, lineSizes, requestOk, inRange, blocked, order, plainRefusal, longFor, refusalOf, lineDone, runDone, done, onLent}
 use Rattle.model.proofs.Good.{good-of}
 use Rattle.model.proofs.Accepted.{is-refused, is-done, order-0, order-formed, and-none, all5}
 use Rattle.model.proofs.Tests.{and-both}
@@ -26,13 +26,13 @@ unfolding runDone
 run-1 u next l r n o p b b′ f f′ k x e g = ap (λ (y : Access). lineOutcome y l r n o p b′ f′) g ∙ (λ i. outcome (doneAnswer 0 k (e i .unit)) (e i))
 
 module _ (u : Ppu) (l r n o p b f : List ℕ) (s : Bool) (k : ℕ) (hs : s ≡ lineSizes (u .board) (length l) (length r) (length n) (length o) (length p) (length b) (length f)) (hk : k ≡ plainRefusal s u) where
-  same-line : (c : Call) → inRange c ≡ true → blocked c ≡ false → longFor c u (lineMemory l r n o p b f) ≡ lineSizes (u .board) (length l) (length r) (length n) (length o) (length p) (length b) (length f)
+  same-line : (c : Call) → requestOk c ≡ true → inRange c ≡ true → blocked c ≡ false → longFor c u (lineMemory l r n o p b f) ≡ lineSizes (u .board) (length l) (length r) (length n) (length o) (length p) (length b) (length f)
       → k ≡ refusalOf c (state u (lineMemory l r n o p b f))
   unfolding refusalOf plainRefusal
-  same-line c e f g = hk ∙ rw (hs, e, f, g) (ap (order _ (isWellFormed u) true) (sym (and-none (isDrawing u))))
+  same-line c a e f g = hk ∙ rw (hs, a, e, f, g) (ap (order true _ (isWellFormed u) true) (sym (and-none (isDrawing u))))
 
   refused-line : (x : Access) → (k ≡ 0 → ⊥) → x ≡ refusedAccess k u → lineOutcome x l r n o p b f ≡ onLent (lineCall own) (state u (lineMemory l r n o p b f))
-  refused-line x h e = ap (λ (y : Access). lineOutcome y l r n o p b f) e ∙ is-refused (lineCall own) (state u (lineMemory l r n o p b f)) k (same-line (lineCall own) refl refl refl) h
+  refused-line x h e = ap (λ (y : Access). lineOutcome y l r n o p b f) e ∙ is-refused (lineCall own) (state u (lineMemory l r n o p b f)) k (same-line (lineCall own) refl refl refl refl) h
 
   done-line : (x : Access) (next : Ppu) (b′ f′ : List ℕ) → k ≡ 0 → state next (lineMemory l r n o p b′ f′) ≡ oneLine (state u (lineMemory l r n o p b f))
       → x ≡ access (doneAnswer 0 1 next) next → lineOutcome x l r n o p b′ f′ ≡ onLent (lineCall own) (state u (lineMemory l r n o p b f))
@@ -40,24 +40,24 @@ module _ (u : Ppu) (l r n o p b f : List ℕ) (s : Bool) (k : ℕ) (hs : s ≡ l
   done-line x next b′ f′ h e g =
       ap (λ (y : Access). lineOutcome y l r n o p b′ f′) g
       ∙ (λ i. outcome (doneAnswer 0 1 (e i .unit)) (e i))
-      ∙ is-done (lineCall own) (state u (lineMemory l r n o p b f)) k (same-line (lineCall own) refl refl refl) h
+      ∙ is-done (lineCall own) (state u (lineMemory l r n o p b f)) k (same-line (lineCall own) refl refl refl refl) h
 
   refused-run : (x : Access) (why most : ℕ) → (k ≡ 0 → ⊥) → x ≡ refusedAccess k u → lineOutcome x l r n o p b f ≡ onLent (runCall own why most) (state u (lineMemory l r n o p b f))
   refused-run x why most h e =
-      ap (λ (y : Access). lineOutcome y l r n o p b f) e ∙ is-refused (runCall own why most) (state u (lineMemory l r n o p b f)) k (same-line (runCall own why most) refl refl refl) h
+      ap (λ (y : Access). lineOutcome y l r n o p b f) e ∙ is-refused (runCall own why most) (state u (lineMemory l r n o p b f)) k (same-line (runCall own why most) refl refl refl refl) h
 
   done-nmi : (x : Outcome) (most j : ℕ) → k ≡ 0 → j ≡ nmiCount most u → x ≡ runDone j (state u (lineMemory l r n o p b f))
       → x ≡ onLent (runCall own 1 most) (state u (lineMemory l r n o p b f))
   unfolding done lineCount
   done-nmi x most j h e g =
       g ∙ ap (λ (i : ℕ). runDone i (state u (lineMemory l r n o p b f))) e
-      ∙ is-done (runCall own 1 most) (state u (lineMemory l r n o p b f)) k (same-line (runCall own 1 most) refl refl refl) h
+      ∙ is-done (runCall own 1 most) (state u (lineMemory l r n o p b f)) k (same-line (runCall own 1 most) refl refl refl refl) h
 
   done-plain : (x : Access) (next : Ppu) (b′ f′ : List ℕ) (most : ℕ) → k ≡ 0 → state next (lineMemory l r n o p b′ f′) ≡ linesRun most (state u (lineMemory l r n o p b f))
       → x ≡ access (doneAnswer 0 most next) next → lineOutcome x l r n o p b′ f′ ≡ onLent (runCall own 0 most) (state u (lineMemory l r n o p b f))
   unfolding done lineCount
   done-plain x next b′ f′ most h e g =
-      run-1 u next l r n o p b b′ f f′ most x e g ∙ is-done (runCall own 0 most) (state u (lineMemory l r n o p b f)) k (same-line (runCall own 0 most) refl refl refl) h
+      run-1 u next l r n o p b b′ f f′ most x e g ∙ is-done (runCall own 0 most) (state u (lineMemory l r n o p b f)) k (same-line (runCall own 0 most) refl refl refl refl) h
 
 -- THE COLOURS AS BYTES c, which are q numbers
 module _ (u : Ppu) (l r n o p b c : List ℕ) (q : ℕ) (s : Bool) (k : ℕ) (eq : q ≡ cond (eqb (length c % 2) 0) (length c / 2) (length c))
@@ -68,7 +68,7 @@ module _ (u : Ppu) (l r n o p b c : List ℕ) (q : ℕ) (s : Bool) (k : ℕ) (eq
   pub line-long : k ≡ 0 → RunLengths (u .board) l r n o p b c
   unfolding plainRefusal
   line-long h =
-      let y = and-both (accessSizes (u .board) (length l) (length r) (length n) (length o) (length p)) _ (sym hs ∙ order-0 _ _ _ _ (sym hk ∙ h)) in
+      let y = and-both (accessSizes (u .board) (length l) (length r) (length n) (length o) (length p)) _ (sym hs ∙ order-0 _ _ _ _ _ (sym hk ∙ h)) in
       let z = all5 (eqb (length l) 4096) (eqb (length r) 4096) (eqb (length n) 2048) (eqb (length o) 256) (eqb (length p) 32) (y .0) in
       let w = and-both (eqb (length b) 256) (eqb (length (numbersOf c)) 256) (y .1) in
       record {
@@ -131,7 +131,7 @@ pub ruleset numbers-cases = (line-short, run-short, numbers-done)
 module _ (u : Ppu) (s : Bool) (k : ℕ) (hk : k ≡ plainRefusal s u) (h : k ≡ 0) where
   pub line-formed : isWellFormed u ≡ true
   unfolding plainRefusal
-  line-formed = order-formed _ _ _ _ (sym hk ∙ h)
+  line-formed = order-formed _ _ _ _ _ (sym hk ∙ h)
 
   pub line-next : u .scanline < 262
   line-next = good-of u line-formed .scanline

@@ -10,7 +10,7 @@ use Rattle.model.specs.declared.Access.{Access}
 use Rattle.model.specs.Unit.{withV, bit, isRendering, isDrawing, isWellFormed, nmiLevel}
 use Rattle.model.specs.Ports.{stepped}
 use Rattle.model.specs.Scroll.{turn11, rowDown, copySide}
-use Rattle.model.specs.Calls.{answer, access, doneAnswer}
+use Rattle.model.specs.Calls.{answer, access, doneAnswer, lookedAnswer}
 
 pub rendering-1 : (u : Ppu) (k : ℕ) → k ≡ u .mask / 8 % 4 → not (eqb k 0) ≡ isRendering u
 unfolding isRendering
@@ -93,6 +93,9 @@ pub ruleset down-cases = (down-1, down-2, down-3, down-4)
 -- a call that is done, by the NMI level that the code found
 pub done-1 : (b k : ℕ) (u : Ppu) (n : Bool) (r : Access) → n ≡ nmiLevel u → r ≡ access (answer 0 b k n) u → r ≡ access (doneAnswer b k u) u
 done-1 b k u n r e f = f ∙ rw e
+
+pub looked-1 : (k : ℕ) (u : Ppu) (n : Bool) (r : Access) → n ≡ nmiLevel u → r ≡ access (record { number = 0; byte = 0; lines = 0; nmi = n; looked = k }) u → r ≡ access (lookedAnswer k u) u
+looked-1 k u n r e f = f ∙ rw e
 
 -- after an access of port 7
 module _ (u : Ppu) where

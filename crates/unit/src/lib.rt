@@ -1,12 +1,12 @@
 // The unit by itself: Ppu -> Ppu, no memory. Inner functions, not public calls.
 // rendering, drawing, well_formed, nmi; v's steps: row_down, copy_side, and step after an access of port 7;
-// what a call hands back: done, refused.
+// what a call hands back: done, looked, refused.
 ghost use mathlib.Core.Path.{_≡_};
 ghost use Prim.Native.Nat.{_+_, _*_, _/_, _%_, _<_};
 ghost use Rattle.model.specs.Unit.{isRendering, isDrawing, isWellFormed, nmiLevel};
 ghost use Rattle.model.specs.Ports.{stepped};
 ghost use Rattle.model.specs.Scroll.{turn11, rowDown, copySide};
-ghost use Rattle.model.specs.Calls.{access, doneAnswer, refusedAccess};
+ghost use Rattle.model.specs.Calls.{access, doneAnswer, lookedAnswer, refusedAccess};
 use model::Access;
 use model::Answer;
 use model::Ppu;
@@ -126,6 +126,25 @@ pub fn done(byte: u8, lines: u16, u: Ppu) -> Access
         byte: byte,
         lines: lines,
         nmi: level,
+        looked: 0,
+    };
+    Access {
+        answer: answer,
+        unit: u,
+    }
+}
+
+// A search that is done: the sprites it looked at.
+pub fn looked(n: u8, u: Ppu) -> Access
+    ensures { λ r. ⌜ r ≡ access (lookedAnswer n u) u ⌝ }
+{
+    let level = nmi(u);
+    let answer = Answer {
+        number: 0,
+        byte: 0,
+        lines: 0,
+        nmi: level,
+        looked: n,
     };
     Access {
         answer: answer,
@@ -142,6 +161,7 @@ pub fn refused(number: u8, u: Ppu) -> Access
         byte: 0,
         lines: 0,
         nmi: false,
+        looked: 0,
     };
     Access {
         answer: answer,

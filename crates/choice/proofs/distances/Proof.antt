@@ -5,30 +5,34 @@ use Rattle.choice.proofs.distances.Statement.{statement}
 use Rattle.choice.proofs.distances.Tie as tie
 use Rattle.choice.proofs.distances.Reads as reads
 use Rattle.choice.proofs.distances.Lts as lts
-use Rattle.choice.proofs.from_words.Reads as from-words-reads
+use Rattle.choice.proofs.from_y.Reads as from-y-reads
 use Rattle.choice.proofs.words.Reads as words-reads
+use Rattle.choice.proofs.y_bytes.Reads as y-bytes-reads
 
--- src/lib.rt:85:16
 slice-aggregate-words : tie.Need-slice-aggregate-words
 slice-aggregate-words c = search needs
 
--- src/lib.rt:85:5
 words-requires : tie.Need-words-requires
 words-requires c κs = search needs
 
--- src/lib.rt:86:19
-slice-aggregate-from-words : tie.Need-slice-aggregate-from-words
-slice-aggregate-from-words c = search needs
+slice-aggregate-y-bytes : tie.Need-slice-aggregate-y-bytes
+slice-aggregate-y-bytes c = search needs
 
--- src/lib.rt:86:5
-from-words-requires : tie.Need-from-words-requires
-from-words-requires c κs = search needs
+slice-aggregate-y-bytes-2 : tie.Need-slice-aggregate-y-bytes-2
+slice-aggregate-y-bytes-2 c = search needs
 
--- src/lib.rt:80:1
+y-bytes-requires : tie.Need-y-bytes-requires
+y-bytes-requires c κs = search needs
+
+slice-aggregate-from-y : tie.Need-slice-aggregate-from-y
+slice-aggregate-from-y c = search needs
+
+from-y-requires : tie.Need-from-y-requires
+from-y-requires c κs = search needs
+
 same-length : tie.Need-same-length
 same-length c = search needs
 
--- src/lib.rt:80:1
 returns : tie.Need-returns
 returns c = search (worded-distances, arith)
 
@@ -38,7 +42,10 @@ distances-spec =
     (tie.spec
     slice-aggregate-words
     words-requires
-    slice-aggregate-from-words
-    from-words-requires
+    slice-aggregate-y-bytes
+    slice-aggregate-y-bytes-2
+    y-bytes-requires
+    slice-aggregate-from-y
+    from-y-requires
     same-length
     returns)
