@@ -38,15 +38,56 @@ first-not : (a b : Bool) → b ≡ true → a && b ≡ false → a ≡ false
 first-not false b e f = refl
 first-not true b e f = absurd (true≢false (sym e ∙ f))
 
+-- of i sprites from at on n are near
+pub record Sixteen (d : List ℕ) (h at n i : ℕ) : Type 0 where
+  pub room : i ≤ 16
+  pub most : n ≤ i
+  pub so-far : countOf (near d 0 h) at + n ≡ countOf (near d 0 h) (at + i)
+
+module _ (d : List ℕ) (h at : ℕ) where
+  pub sixteen-start : Sixteen d h at 0 0
+  sixteen-start = let z : at + 0 ≡ at = omega arith in record { room = omega arith; most = omega arith; so-far = rw z (omega arith) }
+
+  module _ (n i : ℕ) (m : Sixteen d h at n i) where
+    pub sixteen-more : (o : ℕ) → i < 16 → o ≤ 1 → o ≡ cond (isFrom 0 h (getD d (at + i) 0)) 1 0 → Sixteen d h at (n + o) (i + 1)
+    unfolding near
+    sixteen-more o lt one e =
+        let z : at + (i + 1) ≡ at + i + 1 = omega arith in
+        let w : countOf (near d 0 h) at + (n + o) ≡ countOf (near d 0 h) at + n + o = omega arith in
+        record { room = omega arith; most = omega (arith, m .most); so-far = rw (z, w) (count-more (near d 0 h) (at + i) (countOf (near d 0 h) at + n) o (m .so-far) e) }
+
+    pub sixteen-done : 16 ≤ i → countOf (near d 0 h) at + n ≡ countOf (near d 0 h) (at + 16)
+    sixteen-done ge = let z : i ≡ 16 = omega (arith, m .room) in rw z at (m .so-far)
+
+    pub sixteen-most : n ≤ 16
+    sixteen-most = omega (arith, m .most, m .room)
+
+pub ruleset sixteen-loop = (sixteen-start, sixteen-more, sixteen-done, sixteen-most)
+
+-- sixteens passed over
+pub record Past (d : List ℕ) (h k i : ℕ) : Type 0 where
+  pub room : i ≤ 48
+  pub sixteens : i % 16 ≡ 0
+  pub few : k ≤ 7
+  pub so-far : k ≡ countOf (near d 0 h) i
+
+pub past-start : (d : List ℕ) (h : ℕ) → Past d h 0 0
+unfolding countOf
+past-start d h = record { room = omega arith; sixteens = refl; few = omega arith; so-far = refl }
+
+pub past-more : (d : List ℕ) (h k i o : ℕ) → Past d h k i → i < 48 → countOf (near d 0 h) i + o ≡ countOf (near d 0 h) (i + 16) → k + o ≤ 7 → Past d h (k + o) (i + 16)
+past-more d h k i o m lt e few = record { room = omega (arith, m .sixteens); sixteens = omega (arith, m .sixteens); few = few; so-far = omega (arith, e, m .so-far) }
+
+pub ruleset past-loop = (past-start, past-more)
+
 -- of the first i sprites k are near, and not eight yet
 pub record Few (d : List ℕ) (h k i : ℕ) : Type 0 where
   pub room : i ≤ 64
   pub few : k ≤ 7
   pub so-far : k ≡ countOf (near d 0 h) i
 
-pub few-start : (d : List ℕ) (h : ℕ) → Few d h 0 0
-unfolding countOf
-few-start d h = record { room = omega arith; few = omega arith; so-far = refl }
+pub few-start : (d : List ℕ) (h k i : ℕ) → i ≤ 48 → k ≤ 7 → k ≡ countOf (near d 0 h) i → Few d h k i
+few-start d h k i r f e = record { room = omega arith; few = f; so-far = e }
 
 module _ (d : List ℕ) (h k i : ℕ) (m : Few d h k i) where
   module _ (o : ℕ) (e : o ≡ cond (isFrom 0 h (getD d i 0)) 1 0) where

@@ -1,6 +1,6 @@
 // The choice of the eight sprites that a line shows, and the search for overflow. Inner functions, not public calls.
 // choose, search. Within: height; distances: distance, wide32, lowest, word, words, y_bytes, from_y, distances, near_one, count; the list: marks,
-// any8, list_eight, list_some, list_marked, list_places, at_most_eight, listed; the search: eighth, tried_one, on_diagonal, tried_some, skip, next_byte,
+// any8, list_eight, list_some, list_marked, list_places, at_most_eight, listed; the search: in_sixteen, eighth_from, eighth, tried_one, on_diagonal, tried_some, skip, next_byte,
 // diagonal, searched, is_over.
 ghost use mathlib.Core.Path.{_≡_};
 ghost use mathlib.Core.Bool.{cond, true};
@@ -236,13 +236,27 @@ fn listed(control: u8, n: u8, oam: &[u8], d: &[u8], list: &mut [u8]) -> usize
     at_most_eight(shown)
 }
 
-// The place of the eighth sprite whose distance is below h, where there are eight.
-fn eighth(d: &[u8], h: u8) -> usize
-    requires { ⌜ (length (now d) ≡ 64) × (8 ≤ countOf (near (now d) 0 h) 64) ⌝ }
+// How many of the sixteen distances from place at on are below h.
+fn in_sixteen(d: &[u8], at: usize, h: u8) -> u8
+    requires { ⌜ (length (now d) ≡ 64) × (at + 16 ≤ 64) ⌝ }
+    ensures { λ r. ⌜ (countOf (near (now (d .entry)) 0 h) at + r ≡ countOf (near (now (d .entry)) 0 h) (at + 16)) × (r ≤ 16) ⌝ }
+{
+    let mut n = 0u8;
+    let mut i = 0;
+    while i < 16 {
+        n += near_one(d[at + i], 0, h);
+        i += 1;
+    }
+    n
+}
+
+// The place of the eighth sprite whose distance is below h, where there are eight and fewer than eight of them are before place `from`: so many.
+fn eighth_from(d: &[u8], h: u8, found: u8, from: usize) -> usize
+    requires { ⌜ (length (now d) ≡ 64) × (8 ≤ countOf (near (now d) 0 h) 64) × (from ≤ 48) × (found ≤ 7) × (found ≡ countOf (near (now d) 0 h) from) ⌝ }
     ensures { λ r. ⌜ (r < 64) × (countOf (near (now (d .entry)) 0 h) r ≡ 7) × (near (now (d .entry)) 0 h r ≡ true) ⌝ }
 {
-    let mut k = 0u8;
-    let mut i = 0;
+    let mut k = found;
+    let mut i = from;
     while i < 64 {
         let m = k + near_one(d[i], 0, h);
         if 7 < m {
@@ -252,6 +266,24 @@ fn eighth(d: &[u8], h: u8) -> usize
         i += 1;
     }
     i
+}
+
+// The same from the first sprite on: sixteens that do not reach the eighth are passed over.
+fn eighth(d: &[u8], h: u8) -> usize
+    requires { ⌜ (length (now d) ≡ 64) × (8 ≤ countOf (near (now d) 0 h) 64) ⌝ }
+    ensures { λ r. ⌜ (r < 64) × (countOf (near (now (d .entry)) 0 h) r ≡ 7) × (near (now (d .entry)) 0 h r ≡ true) ⌝ }
+{
+    let mut found = 0u8;
+    let mut at = 0;
+    while at < 48 {
+        let more = found + in_sixteen(d, at, h);
+        if 7 < more {
+            return eighth_from(d, h, found, at);
+        }
+        found = more;
+        at += 16;
+    }
+    eighth_from(d, h, found, at)
 }
 
 // 1 if the byte y, tried as a Y byte, is in range of line n, else 0.

@@ -98,12 +98,18 @@ pub record Look : Type 0 where
   pub found : ℕ
   pub over : Bool
 
--- one sprite more. Until eight are found byte 0 is tried. Then, in range: the bit is set; not in range: the next sprite and the next byte, from 3 to 0
+-- one sprite more. Until eight are found byte 0 is tried. Then, in range: the bit is set; not in range: the next sprite and the next of its four bytes, from
+-- byte 3 to byte 0
 unfoldable pub lookOn : ℕ → List ℕ → ℕ → Look → Look
 lookOn c o n s =
     let eight : Bool = leb 8 (s .found) in
     let y : Bool = tried c o n (s .looked) (s .byte) in
-    record { looked = s .looked + 1; byte = cond eight ((s .byte + 1) % 4) 0; found = cond (y && not eight) (s .found + 1) (s .found); over = y && eight }
+    record {
+      looked = s .looked + 1;
+      byte = cond eight ((s .byte + 1) % 4) 0;
+      found = cond (y && not eight) (s .found + 1) (s .found);
+      over = y && eight;
+    }
 
 -- k steps of the search, none after the one that sets the bit
 unfoldable pub looksOf : ℕ → List ℕ → ℕ → ℕ → Look

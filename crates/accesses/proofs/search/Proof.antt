@@ -9,39 +9,30 @@ use Rattle.refusals.proofs.plain_refusal.Reads as plain-refusal-reads
 use Rattle.unit.proofs.looked.Reads as looked-reads
 use Rattle.unit.proofs.refused.Reads as refused-reads
 
--- src/lib.rt:137:9
 refused-requires : tie.Need-refused-requires
 refused-requires c κs = search needs
 
--- src/lib.rt:137:9
 returns : tie.Need-returns
 returns c = search (search-cases, needs)
 
--- src/lib.rt:139:9
 plain-refusal-requires : tie.Need-plain-refusal-requires
 plain-refusal-requires c κs = search needs
 
--- src/lib.rt:141:9
 refused-requires-2 : tie.Need-refused-requires-2
 refused-requires-2 c κs = search needs
 
--- src/lib.rt:141:9
 returns-2 : tie.Need-returns-2
 returns-2 c = search (search-cases, needs)
 
--- src/lib.rt:143:43
 cast-search : tie.Need-cast-search
 cast-search c = search needs
 
--- src/lib.rt:143:9
 search-requires : tie.Need-search-requires
 search-requires c κs = search search-oam
 
--- src/lib.rt:144:5
 looked-requires : tie.Need-looked-requires
 looked-requires c κs = search needs
 
--- src/lib.rt:133:1
 returns-3 : tie.Need-returns-3
 returns-3 c = search (search-cases, needs)
 

@@ -16,59 +16,45 @@ Inv-loop control n oam from h i₀ b₀ i b = Diagonal control oam n i b
 abbrev μ-loop : tie.MeasureT-loop
 μ-loop control n oam from h i₀ b₀ i b = 64 - i
 
--- src/lib.rt:291:9
 height-requires : tie.Need-height-requires Inv-loop μ-loop
 height-requires c κs = search needs
 
--- src/lib.rt:294:5
 loop-holds : tie.Need-loop-holds Inv-loop μ-loop
 loop-holds c = search (diagonal-loop, arith)
 
--- src/lib.rt:295:37
 mul-tried-one : tie.Need-mul-tried-one Inv-loop μ-loop
 mul-tried-one c = search needs
 
--- src/lib.rt:295:37
 add-tried-one : tie.Need-add-tried-one Inv-loop μ-loop
 add-tried-one c = search needs
 
--- src/lib.rt:295:33
 shared-slice-read-tried-one : tie.Need-shared-slice-read-tried-one Inv-loop μ-loop
 shared-slice-read-tried-one c = search needs
 
--- src/lib.rt:295:13
 tried-one-requires : tie.Need-tried-one-requires Inv-loop μ-loop
 tried-one-requires c κs = search needs
 
--- src/lib.rt:298:26
 add-t14 : tie.Need-add-t14 Inv-loop μ-loop
 add-t14 c = search needs
 
--- src/lib.rt:298:25
 cast-t15 : tie.Need-cast-t15 Inv-loop μ-loop
 cast-t15 c = search needs
 
--- src/lib.rt:297:13
 returns : tie.Need-returns Inv-loop μ-loop
 returns c = search (diagonal-loop, arith)
 
--- src/lib.rt:302:9
 add-i : tie.Need-add-i Inv-loop μ-loop
 add-i c = search needs
 
--- src/lib.rt:303:9
 next-byte-requires : tie.Need-next-byte-requires Inv-loop μ-loop
 next-byte-requires c κs = search needs
 
--- src/lib.rt:294:5
 loop-less : tie.Need-loop-less Inv-loop μ-loop
 loop-less c = search needs
 
--- src/lib.rt:294:5
 loop-again : tie.Need-loop-again Inv-loop μ-loop
 loop-again c = search (diagonal-loop, arith)
 
--- src/lib.rt:287:1
 returns-2 : tie.Need-returns-2 Inv-loop μ-loop
 returns-2 c = search (diagonal-loop, arith)
 

@@ -1,54 +1,49 @@
-use Rattle.choice.proofs.Overflow.{Few, eighth-loop}
+use Prim.Native.Nat.{_-_}
 use native.Mathlib.Omega.{arith}
 use borrow.Author.Needs.{needs}
-use Prim.Native.Nat.{_-_}
+use Rattle.choice.proofs.Overflow.{Past, past-loop}
 use Rattle.choice.proofs.eighth.Statement.{statement}
 use Rattle.choice.proofs.eighth.Tie as tie
 use Rattle.choice.proofs.eighth.Reads as reads
 use Rattle.choice.proofs.eighth.Lts as lts
-use Rattle.choice.proofs.near_one.Reads as near-one-reads
+use Rattle.choice.proofs.eighth_from.Reads as eighth-from-reads
+use Rattle.choice.proofs.in_sixteen.Reads as in-sixteen-reads
 
 abbrev Inv-loop : tie.InvT-loop
-Inv-loop d h k₀ i₀ k i = Few d h k i
+Inv-loop d h found₀ at₀ found at = Past d h found at
 
 abbrev μ-loop : tie.MeasureT-loop
-μ-loop d h k₀ i₀ k i = 64 - i
+μ-loop d h found₀ at₀ found at = 48 - at
 
--- src/lib.rt:231:5
 loop-holds : tie.Need-loop-holds Inv-loop μ-loop
-loop-holds c = search (eighth-loop, arith)
+loop-holds c = search (past-loop, arith)
 
--- src/lib.rt:232:30
-shared-slice-read-near-one : tie.Need-shared-slice-read-near-one Inv-loop μ-loop
-shared-slice-read-near-one c = search needs
+in-sixteen-requires : tie.Need-in-sixteen-requires Inv-loop μ-loop
+in-sixteen-requires c κs = search needs
 
--- src/lib.rt:232:21
-near-one-requires : tie.Need-near-one-requires Inv-loop μ-loop
-near-one-requires c κs = search needs
+add-more : tie.Need-add-more Inv-loop μ-loop
+add-more c = search needs
 
--- src/lib.rt:232:17
-add-m : tie.Need-add-m Inv-loop μ-loop
-add-m c = search needs
+eighth-from-requires : tie.Need-eighth-from-requires Inv-loop μ-loop
+eighth-from-requires c κs = search needs
 
--- src/lib.rt:234:13
 returns : tie.Need-returns Inv-loop μ-loop
-returns c = search (eighth-loop, arith)
+returns c = search needs
 
--- src/lib.rt:237:9
-add-i : tie.Need-add-i Inv-loop μ-loop
-add-i c = search needs
+add-at : tie.Need-add-at Inv-loop μ-loop
+add-at c = search needs
 
--- src/lib.rt:231:5
 loop-less : tie.Need-loop-less Inv-loop μ-loop
 loop-less c = search needs
 
--- src/lib.rt:231:5
 loop-again : tie.Need-loop-again Inv-loop μ-loop
-loop-again c = search (eighth-loop, arith)
+loop-again c = search (past-loop, arith)
 
--- src/lib.rt:225:1
+eighth-from-requires-2 : tie.Need-eighth-from-requires-2 Inv-loop μ-loop
+eighth-from-requires-2 c κs = search needs
+
 returns-2 : tie.Need-returns-2 Inv-loop μ-loop
-returns-2 c = search (eighth-loop, arith)
+returns-2 c = search needs
 
 pub eighth-spec : {M : Type 1} → statement M
 eighth-spec =
@@ -57,11 +52,12 @@ eighth-spec =
     Inv-loop
     μ-loop
     loop-holds
-    shared-slice-read-near-one
-    near-one-requires
-    add-m
+    in-sixteen-requires
+    add-more
+    eighth-from-requires
     returns
-    add-i
+    add-at
     loop-less
     loop-again
+    eighth-from-requires-2
     returns-2)

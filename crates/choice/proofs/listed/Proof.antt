@@ -10,31 +10,24 @@ use Rattle.choice.proofs.count.Reads as count-reads
 use Rattle.choice.proofs.height.Reads as height-reads
 use Rattle.choice.proofs.list_places.Reads as list-places-reads
 
--- src/lib.rt:215:9
 height-requires : tie.Need-height-requires
 height-requires c κs = search needs
 
--- src/lib.rt:216:9
 count-requires : tie.Need-count-requires
 count-requires c κs = search needs
 
--- src/lib.rt:218:9
 returns : tie.Need-returns
 returns c = search (listed-cases, arith)
 
--- src/lib.rt:220:5
 list-places-requires : tie.Need-list-places-requires
 list-places-requires c κs = search needs
 
--- src/lib.rt:221:5
 at-most-eight-requires : tie.Need-at-most-eight-requires
 at-most-eight-requires c κs = search needs
 
--- src/lib.rt:211:1
 same-length : tie.Need-same-length
 same-length c = search needs
 
--- src/lib.rt:211:1
 returns-2 : tie.Need-returns-2
 returns-2 c = search (listed-cases, arith)
 

@@ -5,11 +5,9 @@ use Rattle.choice.proofs.lowest.Tie as tie
 use Rattle.choice.proofs.lowest.Reads as reads
 use Rattle.choice.proofs.lowest.Lts as lts
 
--- src/lib.rt:44:5
 cast-result : tie.Need-cast-result
 cast-result c = record { fits = omega (arith, and-mask (c .args .w) 8) }
 
--- src/lib.rt:41:1
 returns : tie.Need-returns
 returns c = and-mask (c .args .w) 8
 

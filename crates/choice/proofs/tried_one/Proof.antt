@@ -8,15 +8,12 @@ use Rattle.choice.proofs.tried_one.Lts as lts
 use Rattle.choice.proofs.distance.Reads as distance-reads
 use Rattle.choice.proofs.near_one.Reads as near-one-reads
 
--- src/lib.rt:247:14
 distance-requires : tie.Need-distance-requires
 distance-requires c κs = search needs
 
--- src/lib.rt:247:5
 near-one-requires : tie.Need-near-one-requires
 near-one-requires c κs = search needs
 
--- src/lib.rt:243:1
 returns : tie.Need-returns
 returns c = search (tried-one, arith)
 

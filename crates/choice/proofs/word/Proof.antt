@@ -7,91 +7,69 @@ use Rattle.choice.proofs.word.Reads as reads
 use Rattle.choice.proofs.word.Lts as lts
 use Rattle.choice.proofs.wide32.Reads as wide32-reads
 
--- src/lib.rt:52:16
 mul-wide32 : tie.Need-mul-wide32
 mul-wide32 c = search needs
 
--- src/lib.rt:52:12
 shared-slice-read-wide32 : tie.Need-shared-slice-read-wide32
 shared-slice-read-wide32 c = search needs
 
--- src/lib.rt:52:5
 wide32-requires : tie.Need-wide32-requires
 wide32-requires c κs = search needs
 
--- src/lib.rt:52:37
 mul-wide32-2 : tie.Need-mul-wide32-2
 mul-wide32-2 c = search needs
 
--- src/lib.rt:52:37
 add-wide32 : tie.Need-add-wide32
 add-wide32 c = search needs
 
--- src/lib.rt:52:33
 shared-slice-read-wide32-2 : tie.Need-shared-slice-read-wide32-2
 shared-slice-read-wide32-2 c = search needs
 
--- src/lib.rt:52:26
 wide32-requires-2 : tie.Need-wide32-requires-2
 wide32-requires-2 c κs = search needs
 
--- src/lib.rt:52:26
 mul-result : tie.Need-mul-result
 mul-result c = search needs
 
--- src/lib.rt:52:5
 add-result : tie.Need-add-result
 add-result c = search needs
 
--- src/lib.rt:52:68
 mul-wide32-3 : tie.Need-mul-wide32-3
 mul-wide32-3 c = search needs
 
--- src/lib.rt:52:68
 add-wide32-2 : tie.Need-add-wide32-2
 add-wide32-2 c = search needs
 
--- src/lib.rt:52:64
 shared-slice-read-wide32-3 : tie.Need-shared-slice-read-wide32-3
 shared-slice-read-wide32-3 c = search needs
 
--- src/lib.rt:52:57
 wide32-requires-3 : tie.Need-wide32-requires-3
 wide32-requires-3 c κs = search needs
 
--- src/lib.rt:52:57
 mul-result-2 : tie.Need-mul-result-2
 mul-result-2 c = search needs
 
--- src/lib.rt:52:5
 add-result-2 : tie.Need-add-result-2
 add-result-2 c = search needs
 
--- src/lib.rt:52:101
 mul-wide32-4 : tie.Need-mul-wide32-4
 mul-wide32-4 c = search needs
 
--- src/lib.rt:52:101
 add-wide32-3 : tie.Need-add-wide32-3
 add-wide32-3 c = search needs
 
--- src/lib.rt:52:97
 shared-slice-read-wide32-4 : tie.Need-shared-slice-read-wide32-4
 shared-slice-read-wide32-4 c = search needs
 
--- src/lib.rt:52:90
 wide32-requires-4 : tie.Need-wide32-requires-4
 wide32-requires-4 c κs = search needs
 
--- src/lib.rt:52:90
 mul-result-3 : tie.Need-mul-result-3
 mul-result-3 c = search needs
 
--- src/lib.rt:52:5
 add-result-3 : tie.Need-add-result-3
 add-result-3 c = search needs
 
--- src/lib.rt:48:1
 returns : tie.Need-returns
 returns c = search (word-low, arith)
 

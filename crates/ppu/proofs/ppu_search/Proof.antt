@@ -10,35 +10,27 @@ use Rattle.record.proofs.read_unit.Reads as read-unit-reads
 use Rattle.refusals.proofs.pack.Reads as pack-reads
 use Rattle.refusals.proofs.record_refusal.Reads as record-refusal-reads
 
--- src/lib.rt:147:9
 returns : tie.Need-returns
 returns c = search (search-cases, needs)
 
--- src/lib.rt:149:9
 record-refusal-requires : tie.Need-record-refusal-requires
 record-refusal-requires c κs = search needs
 
--- src/lib.rt:151:16
 cast-result : tie.Need-cast-result
 cast-result c = search needs
 
--- src/lib.rt:151:9
 returns-2 : tie.Need-returns-2
 returns-2 c = search (search-cases, needs)
 
--- src/lib.rt:153:9
 read-unit-requires : tie.Need-read-unit-requires
 read-unit-requires c κs = search form-long
 
--- src/lib.rt:154:9
 search-requires : tie.Need-search-requires
 search-requires c κs = search needs
 
--- src/lib.rt:156:5
 pack-requires : tie.Need-pack-requires
 pack-requires c κs = search needs
 
--- src/lib.rt:141:1
 returns-3 : tie.Need-returns-3
 returns-3 c = search (search-cases, needs)
 
