@@ -1,6 +1,6 @@
 -- What a reader expects of the search for overflow.
 use mathlib.Core.Path.{_≡_, refl, sym, ap, _∙_}
-use mathlib.Core.Bool.{Bool, true, false, true≢false, cond, not, _&&_, _||_, or-true, or-false}
+use mathlib.Core.Bool.{Bool, true, false, true≢false, cond, _&&_, _||_, or-true, or-false}
 use mathlib.Core.List.{List}
 use Prim.Native.Nat.{ℕ, zero, suc, _+_, _-_, _*_, _/_, _%_, _≤_, _<_}
 use native.Mathlib.Omega.{arith}
@@ -11,7 +11,7 @@ use lib.ListN.{length}
 use borrow.Author.Tests.{leb-true, leb-false, lt-leb, lt-ltb, le-ltb, eq-eqb}
 use Rattle.model.specs.declared.Ppu.{Ppu}
 use Rattle.model.specs.Unit.{State, oamLength, bit, isWellFormed, isRendering, isDrawing}
-use Rattle.model.specs.Sprites.{covers, countOf, tried, Look, lookOn, looksOf, overflows, lookedAt}
+use Rattle.model.specs.Sprites.{covers, countOf, tried, Look, lookedOn, lookOn, looksOf, overflows, lookedAt}
 use Rattle.model.specs.Line.{marked, statusOf, drawnUnit, drawnLine, oneLine}
 use Rattle.model.specs.Calls.{refusal, lookedAnswer, Lent, Call, readCall, writeCall, dmaCall, lineCall, runCall, searchCall, Outcome, outcome, gate, done, readDone, writeDone, dmaDone, lineDone, runDone, searchDone, order, refusalOf, onLent}
 use Rattle.model.specs.Theorems.{IsEighth, Searches, SearchCalls}
@@ -55,8 +55,7 @@ module _ (c : ℕ) (o : List ℕ) (n : ℕ) where
   unfolding lookOn
   step-after k s a e = go (tried c o n (s .looked) (s .byte)) (leb 8 (s .found)) refl refl
     where
-      go : (y x : Bool) → tried c o n (s .looked) (s .byte) ≡ y → leb 8 (s .found) ≡ x
-          → After (suc k) (record { looked = s .looked + 1; byte = cond x ((s .byte + 1) % 4) 0; found = cond (y && not x) (s .found + 1) (s .found); over = y && x })
+      go : (y x : Bool) → tried c o n (s .looked) (s .byte) ≡ y → leb 8 (s .found) ≡ x → After (suc k) (lookedOn y x s)
       go true true t f =
           let z : s .looked + 1 - 1 ≡ s .looked = omega arith in
           let eight : 8 ≤ countOf (covers c o n) (s .looked) = omega (arith, a .found e, leb-true 8 (s .found) f) in
@@ -80,15 +79,15 @@ module _ (c : ℕ) (o : List ℕ) (n : ℕ) where
       go false x t f =
           record {
             most = omega (arith, a .most);
-            byte = λ b. below x b f;
+            byte = λ b. below x _ b f;
             found = λ b. omega (arith, a .found e, count-mono (s .looked));
             on = λ b. omega (arith, a .on e);
             set = λ b. absurd (true≢false (sym b));
           }
         where
-          below : (x : Bool) → s .found < 8 → leb 8 (s .found) ≡ x → cond {A = ℕ} x ((s .byte + 1) % 4) 0 ≡ 0
-          below true l f = absurd (omega (arith, l, leb-true 8 (s .found) f))
-          below false l f = refl
+          below : (x : Bool) (m : ℕ) → s .found < 8 → leb 8 (s .found) ≡ x → cond x m 0 ≡ 0
+          below true m l f = absurd (omega (arith, l, leb-true 8 (s .found) f))
+          below false m l f = refl
 
   looks-after : (k : ℕ) → After k (looksOf c o n k)
   unfolding looksOf countOf
@@ -106,9 +105,9 @@ module _ (c : ℕ) (o : List ℕ) (n : ℕ) where
   -- below eight a step counts; from eight on it goes down the diagonal
   step-few : (k f : ℕ) → f < 8 → lookOn c o n (stands k 0 f) ≡ stands (suc k) 0 (cond (covers c o n k) (f + 1) f)
   unfolding lookOn
-  step-few k f h = rw (lt-leb 8 f h, tried-first k, add-one k) (go (covers c o n k))
+  step-few k f h = rw (lt-leb 8 f h, tried-first k, ← add-one k) (go (covers c o n k))
     where
-      go : (y : Bool) → record { looked = suc k; byte = 0; found = cond (y && true) (f + 1) f; over = y && false } ≡ stands (suc k) 0 (cond y (f + 1) f)
+      go : (y : Bool) → lookedOn y false (stands k 0 f) ≡ stands (k + 1) 0 (cond y (f + 1) f)
       go true = refl
       go false = refl
 
@@ -215,13 +214,13 @@ pub searches : (c : ℕ) (o : List ℕ) (n : ℕ) → Searches c o n
 unfolding overflows lookedAt
 searches c o n =
     record {
-      few = few c o n;
-      sets = λ e j h. sets c o n e h j;
-      ends = ends c o n;
-      set = looks-after c o n 64 .set;
-      not-set = looks-after c o n 64 .on;
-      at-most = looks-after c o n 64 .most;
-      nine = nine c o n;
+      few-not-set = few c o n;
+      first-in-range = λ e j h. sets c o n e h j;
+      none-in-range = ends c o n;
+      set-looked = looks-after c o n 64 .set;
+      not-set-looked = looks-after c o n 64 .on;
+      looked-most = looks-after c o n 64 .most;
+      nine-in-a-row = nine c o n;
     }
 
 -- THE CALL

@@ -98,18 +98,19 @@ pub record Look : Type 0 where
   pub found : ℕ
   pub over : Bool
 
--- one sprite more. Until eight are found byte 0 is tried. Then, in range: the bit is set; not in range: the next sprite and the next of its four bytes, from
--- byte 3 to byte 0
-unfoldable pub lookOn : ℕ → List ℕ → ℕ → Look → Look
-lookOn c o n s =
-    let eight : Bool = leb 8 (s .found) in
-    let y : Bool = tried c o n (s .looked) (s .byte) in
+-- one sprite more, in range or not. Until eight are found byte 0 is tried, and one in range is found. Then, in range: the bit is set; not in range: the
+-- next sprite and the next of its four bytes, from byte 3 to byte 0
+abbrev pub lookedOn : Bool → Bool → Look → Look
+lookedOn within eight s =
     record {
       looked = s .looked + 1;
       byte = cond eight ((s .byte + 1) % 4) 0;
-      found = cond (y && not eight) (s .found + 1) (s .found);
-      over = y && eight;
+      found = cond (within && not eight) (s .found + 1) (s .found);
+      over = within && eight;
     }
+
+unfoldable pub lookOn : ℕ → List ℕ → ℕ → Look → Look
+lookOn c o n s = lookedOn (tried c o n (s .looked) (s .byte)) (leb 8 (s .found)) s
 
 -- k steps of the search, none after the one that sets the bit
 unfoldable pub looksOf : ℕ → List ℕ → ℕ → ℕ → Look

@@ -221,18 +221,18 @@ IsEighth c o n e = (countOf (covers c o n) e ≡ 7) × (covers c o n e ≡ true)
 -- of the next and so on, 3 being followed by 0: the first in range sets the bit, and is the last looked at; if there is none, the bit is not set.
 -- Set: eight in range stand before the last looked at. Not set: all 64 were looked at. Nine in a row, with none before: set at the ninth
 pub record Searches (c : ℕ) (o : List ℕ) (n : ℕ) : Type 0 where
-  pub few : countOf (covers c o n) 64 < 8 → overflows c o n ≡ false
-  pub sets : (e j : ℕ) → IsEighth c o n e → e + 1 + j < 64 → ((i : ℕ) → i < j → tried c o n (e + 1 + i) (i % 4) ≡ false) → tried c o n (e + 1 + j) (j % 4) ≡ true
+  pub few-not-set : countOf (covers c o n) 64 < 8 → overflows c o n ≡ false
+  pub first-in-range : (e j : ℕ) → IsEighth c o n e → e + 1 + j < 64 → ((i : ℕ) → i < j → tried c o n (e + 1 + i) (i % 4) ≡ false) → tried c o n (e + 1 + j) (j % 4) ≡ true
       → (overflows c o n ≡ true) × (lookedAt c o n ≡ e + 2 + j)
-  pub ends : (e : ℕ) → IsEighth c o n e → e < 64 → ((i : ℕ) → e + 1 + i < 64 → tried c o n (e + 1 + i) (i % 4) ≡ false) → overflows c o n ≡ false
-  pub set : overflows c o n ≡ true → (9 ≤ lookedAt c o n) × (8 ≤ countOf (covers c o n) (lookedAt c o n - 1))
-  pub not-set : overflows c o n ≡ false → lookedAt c o n ≡ 64
-  pub at-most : lookedAt c o n ≤ 64
-  pub nine : (i : ℕ) → i + 9 ≤ 64 → countOf (covers c o n) i ≡ 0 → ((j : ℕ) → j < 9 → covers c o n (i + j) ≡ true)
+  pub none-in-range : (e : ℕ) → IsEighth c o n e → e < 64 → ((i : ℕ) → e + 1 + i < 64 → tried c o n (e + 1 + i) (i % 4) ≡ false) → overflows c o n ≡ false
+  pub set-looked : overflows c o n ≡ true → (9 ≤ lookedAt c o n) × (8 ≤ countOf (covers c o n) (lookedAt c o n - 1))
+  pub not-set-looked : overflows c o n ≡ false → lookedAt c o n ≡ 64
+  pub looked-most : lookedAt c o n ≤ 64
+  pub nine-in-a-row : (i : ℕ) → i + 9 ≤ 64 → countOf (covers c o n) i ≡ 0 → ((j : ℕ) → j < 9 → covers c o n (i + j) ≡ true)
       → (overflows c o n ≡ true) × (lookedAt c o n ≡ i + 9)
 
 -- the call: 5 for a line above 239, first; done it reports the search by control and OAM alone, and leaves unit and memory. A drawn line's
--- status bit 5 is set by the search on that line. No other call looks at sprites
+-- status bit 5 is set by the search on that line. No other call reports sprites looked at
 pub record SearchCalls (s : State) : Type 0 where
   pub search-5 : (l : Lent) (n : ℕ) → 240 ≤ n → onLent (searchCall l n) s ≡ outcome (refusal 5) s
   pub search-0 : (l : Lent) (n : ℕ) → n < 240 → length (s .memory .cells .oam) ≡ oamLength → isWellFormed (s .unit) ≡ true

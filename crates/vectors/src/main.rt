@@ -1,8 +1,10 @@
 // Runs the checked values through the public calls and prints one line each.
-// Calls: warmed, wrote, tried, got, drew, ran, number. What they show: place, cell, opaque_column, stepped, lowered, wide, shown.
+// Calls: warmed, wrote, tried, got, drew, ran, number. What they show: place, cell, opaque_column, stepped, lowered, wide, shown, looked, overflow,
+// search_with.
 // Lines: say, say_hex.
-// One function a group of values: cells, palette_cells, scrolling, stepping, rows, status, runs, colours, refusals, records, tiles.
-ghost use Prim.Native.Nat.{_<_};
+// One function a group of values: cells, palette_cells, scrolling, stepping, rows, status, runs, colours, searches, refusals,
+// records, tiles.
+ghost use Prim.Native.Nat.{_<_, _≤_};
 use model::Access;
 use model::Ppu;
 
@@ -299,6 +301,64 @@ fn colours() {
     say(b"off, mask $A1, v $3F01: colour ", shown(0xA1, 0x3F01));
 }
 
+// The sprites that the search on line 20 looks at.
+fn looked(oam: &[u8]) -> u64 {
+    let a = ppu::search(warmed(0), 20, oam);
+    let answer = a.answer;
+    answer.looked as u64
+}
+
+// Status bit 5 after line 20 was drawn.
+fn overflow(oam: &[u8]) -> u64 {
+    let mut u = warmed(0);
+    u.mask = 0x18;
+    u.scanline = 20;
+    let left = [0u8; 4096];
+    let right = [0u8; 4096];
+    let nametables = [0u8; 2048];
+    let palette = [0u8; 32];
+    let mut line = [0u8; 256];
+    let mut colours = [0u16; 256];
+    let a = ppu::line(
+        u,
+        &left,
+        &right,
+        &nametables,
+        oam,
+        &palette,
+        &mut line,
+        &mut colours,
+    );
+    let n = a.unit;
+    (n.status / 32) as u64
+}
+
+// Eight sprites from this place of OAM on and one byte more are in range of line 20, all others are not.
+fn search_with(what: &[u8], from: usize, more: usize)
+    requires { ⌜ (from ≤ 224) × (more < 256) ⌝ }
+{
+    let mut oam = [255u8; 256];
+    oam[from] = 20;
+    oam[from + 4] = 20;
+    oam[from + 8] = 20;
+    oam[from + 12] = 20;
+    oam[from + 16] = 20;
+    oam[from + 20] = 20;
+    oam[from + 24] = 20;
+    oam[from + 28] = 20;
+    oam[more] = 20;
+    say(what, looked(&oam));
+    say(b"status bit 5: ", overflow(&oam));
+}
+
+fn searches() {
+    search_with(b"sprites 0 to 8 in range: looked at ", 0, 32);
+    search_with(b"sprites 0 to 7 and 9: looked at ", 0, 36);
+    search_with(b"sprites 0 to 7, tile byte of 9: looked at ", 0, 37);
+    search_with(b"sprites 56 to 63: looked at ", 224, 224);
+    search_with(b"sprites 0 to 7, X byte of 63: looked at ", 0, 255);
+}
+
 fn refusals() {
     let u = warmed(0);
     let oam = [0u8; 257];
@@ -310,6 +370,14 @@ fn refusals() {
     let mut late = u;
     late.scanline = 262;
     say(b"next line 262: ", number(got(late, 0x2002)));
+    say(
+        b"a search on line 240: ",
+        number(ppu::search(late, 240, &oam)),
+    );
+    say(
+        b"a search on line 239: ",
+        number(ppu::search(u, 239, &oam[..256])),
+    );
 }
 
 // A unit saved and loaded again, and records that are refused.
@@ -349,6 +417,7 @@ fn main() {
     status();
     runs();
     colours();
+    searches();
     refusals();
     records();
     tiles();
