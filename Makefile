@@ -23,7 +23,7 @@ CFLAGS = -O2
 crates := $(shell find crates crates.txt)
 prefix := $(abspath $(PREFIX))
 to = $(DESTDIR)$(prefix)
-tools = $(if $(wildcard tools/build),target/tools/ppu-picture target/tools/ppu-log target/tools/ppu-text tools/ppu-batch)
+tools = $(if $(wildcard tools/build),$(addprefix target/tools/,ppu-picture ppu-log ppu-text ppu-search) tools/ppu-batch)
 installed = $(to)/include/ppu.h $(to)/lib/libppu.a $(to)/lib/libppu-text.a $(to)/lib/pkgconfig/ppu.pc $(to)/lib/pkgconfig/ppu-text.pc \
     $(to)/bin/ppu-player $(addprefix $(to)/bin/,$(notdir $(tools)))
 sdl = $(shell pkg-config --exists sdl2 2>/dev/null && echo sdl2)

@@ -1,7 +1,8 @@
 /* Measures the calls of include/ppu.h and of the peer drawers on the same memory.
      bench time ROUNDS   ns, the least of so many rounds; in a round the drawers take turns
      bench count         does each piece of work once for each drawer, with a call of `mark` before each: for callgrind
-   First all drawers do every piece of work, and the program fails if two of them differ in a pixel, a colour, a record or a byte of memory. */
+   First all drawers do every piece of work, and before times are taken a thousand lines with crowded OAM. The program fails if two of them differ
+   in a pixel, a colour, a record, a byte of memory, or the answer of a line or a search. What the archive before does otherwise is only told. */
 #define _POSIX_C_SOURCE 199309L
 #include <stdio.h>
 #include <stdlib.h>
@@ -10,12 +11,13 @@
 #include "shared.h"
 
 /* MEMORY, as a drawer's call is lent it */
-#define TABLES m.left, sizeof m.left, m.right, sizeof m.right, m.nametables, sizeof m.nametables, m.oam, sizeof m.oam
+#define TABLES m.left, sizeof m.left, m.right, sizeof m.right, m.nametables, sizeof m.nametables, OAM
 #define PALETTE m.palette, sizeof m.palette
 #define LINE m.line, sizeof m.line, m.colours, sizeof m.colours
 #define UNIT m.unit, sizeof m.unit
+#define OAM m.oam, sizeof m.oam
 
-/* PASSES: a pass does a piece of work by one drawer and gives the number of calls, or lines */
+/* PASSES: a pass does a piece of work by one drawer and gives the number of calls, or lines; 0 if the drawer does not have the call */
 typedef unsigned Pass(const Drawer *);
 
 static unsigned draw_lines(const Drawer *d)
@@ -115,12 +117,22 @@ static unsigned sprite_dma(const Drawer *d, unsigned oamaddr)
 {
     m.unit[PPU_AT_OAMADDR] = (uint8_t)oamaddr;
     for (unsigned i = 0; i < 100; i++)
-        d->dma(UNIT, m.oam, sizeof m.oam, m.page, sizeof m.page);
+        d->dma(UNIT, OAM, m.page, sizeof m.page);
     return 100;
 }
 
 static unsigned dma_from_0(const Drawer *d) { return sprite_dma(d, 0); }
 static unsigned dma_from_37(const Drawer *d) { return sprite_dma(d, 37); }
+
+/* the search on each of a screen's lines */
+static unsigned searches(const Drawer *d)
+{
+    unsigned done = 0, first = start[PPU_AT_NEXT_LINE];
+    for (; d->search && done < 1000; done += lines)
+        for (unsigned i = 0; i < lines; i++)
+            d->search(UNIT, (uint16_t)(first + i), OAM);
+    return done;
+}
 
 /* a record of a log, a thousand times */
 static unsigned plays(const Drawer *d, const uint8_t *record)
@@ -133,7 +145,8 @@ static unsigned plays(const Drawer *d, const uint8_t *record)
 static unsigned play_read(const Drawer *d) { return plays(d, (const uint8_t[]){ 0, 0x20, 0x02, 0 }); }
 static unsigned play_write(const Drawer *d) { return plays(d, (const uint8_t[]){ 1, 0x20, 0x07, 0x55 }); }
 
-/* WORK: how memory stands before it, and its pass. Calls are made with the screen off, so that none is refused. Runs are only ours. */
+/* WORK: how memory stands before it, and its pass. Calls are made with the screen off, so that none is refused; a search has the screen of its name.
+   Runs are only ours. */
 typedef struct {
     const char *name;
     void (*set)(void);
@@ -148,6 +161,9 @@ typedef struct {
     { "about three sprites a line", three_sprites, pass }, \
     { "eight sprites a line", eight_sprites, pass }, \
     { "eight of 8x16 a line, flipped", tall_sprites, pass }, \
+    { "eight first, the rest $FF", eight_first, pass }, \
+    { "eight last, the rest $FF", eight_last, pass }, \
+    { "nine first, the rest $FF", nine_first, pass }, \
     { "random", random_screen, pass }
 
 static const Work screens[] = { ALL_SCREENS(draw_lines) };
@@ -163,6 +179,9 @@ static const Work calls[] = {
     { "`ppu_write` to port 4", screen_off, write_oam },
     { "`ppu_dma`, OAMADDR 0", screen_off, dma_from_0 },
     { "`ppu_dma`, OAMADDR 37", screen_off, dma_from_37 },
+    { "`ppu_search`, fewer than eight in range", random_screen, searches },
+    { "`ppu_search`, eight first, the rest $FF", eight_first, searches },
+    { "`ppu_search`, eight last, the rest $FF", eight_last, searches },
     { "`ppu_play` of a read of port 2", screen_off, play_read },
     { "`ppu_play` of a write to port 7", screen_off, play_write },
 };
@@ -183,25 +202,46 @@ static void differ(const Work *w, const Drawer *d, unsigned line)
     exit(1);
 }
 
-/* the memory after each line of a screen, or after a whole pass */
+/* the memory after a line of a screen, or after a whole pass, and the search on that line of the picture */
+static void agree_on(const Work *w, unsigned line)
+{
+    static Machine from, after;
+    uint64_t answer = 0, found = 0;
+    from = m;
+    for (int k = 0; k < DRAWERS; k++) {
+        m = from;
+        uint64_t given = w->pass == draw_lines ? drawers[k].line(UNIT, TABLES, PALETTE, LINE) : w->pass(&drawers[k]);
+        uint64_t searched = drawers[k].search(UNIT, (uint16_t)line, OAM);
+        if (k == 0) {
+            after = m;
+            answer = given;
+            found = searched;
+        } else if (given != answer || searched != found || memcmp(&m, &after, sizeof m))
+            differ(w, &drawers[k], line);
+    }
+}
+
 static void agree(const Work *w)
 {
-    static Machine before, after;
-    uint64_t answer = 0, given;
     unsigned steps = w->pass == draw_lines ? 240 : 1;
     w->set();
     memcpy(m.unit, start, sizeof start);
-    for (unsigned i = 0; i < steps; i++) {
-        before = m;
-        for (int k = 0; k < DRAWERS; k++) {
-            m = before;
-            given = w->pass == draw_lines ? drawers[k].line(UNIT, TABLES, PALETTE, LINE) : w->pass(&drawers[k]);
-            if (k == 0) {
-                after = m;
-                answer = given;
-            } else if (given != answer || memcmp(&m, &after, sizeof m))
-                differ(w, &drawers[k], i);
-        }
+    for (unsigned i = 0; i < steps; i++)
+        agree_on(w, i);
+}
+
+/* lines with so many bytes of OAM about them that the eighth sprite, and the one that sets the bit, stand anywhere */
+static void agree_crowded(const Work *w)
+{
+    w->set();
+    for (unsigned i = 0; i < 1000; i++) {
+        unsigned line = any(240), rare = 1 + any(40);
+        for (unsigned k = 0; k < sizeof m.oam; k++)
+            m.oam[k] = (uint8_t)(any(rare) ? 255 : line - any(20));
+        m.unit[PPU_AT_CONTROL] ^= 0x20;
+        m.unit[PPU_AT_STATUS] = 0;
+        set_word(m.unit, PPU_AT_NEXT_LINE, line);
+        agree_on(w, line);
     }
 }
 
@@ -211,12 +251,96 @@ static void all_agree(const Work *work, int count)
         agree(&work[i]);
 }
 
+/* THE SEARCH, on the lines of each screen that is drawn */
+static unsigned in_range(unsigned line)
+{
+    unsigned count = 0, height = m.unit[PPU_AT_CONTROL] & 0x20 ? 16 : 8;
+    for (unsigned i = 0; i < sizeof m.oam; i += 4)
+        count += m.oam[i] <= line && line < m.oam[i] + height;
+    return count;
+}
+
+static void print_search(const Work *w)
+{
+    unsigned few = 0, to_the_end = 0, set = 0, looked = 0;
+    w->set();
+    memcpy(m.unit, start, sizeof start);
+    for (unsigned line = start[PPU_AT_NEXT_LINE], end = line + lines; line < end; line++) {
+        m.unit[PPU_AT_STATUS] = 0;
+        ppu_line(UNIT, TABLES, PALETTE, LINE);
+        if (m.unit[PPU_AT_STATUS] & 0x20) {
+            set++;
+            looked += ppu_looked(ppu_search(UNIT, (uint16_t)line, OAM));
+        } else if (in_range(line) < 8)
+            few++;
+        else
+            to_the_end++;
+    }
+    printf("| %s | %u | %u | %u |", w->name, few, to_the_end, set);
+    if (set)
+        printf(" %.1f", (double)looked / set);
+    printf(" |\n");
+}
+
+static void print_searches(void)
+{
+    printf("\nlines of the screens that are drawn, by what the search for overflow does on them\n\n");
+    printf("| screen | fewer than eight in range | eight, and not set | set | sprites looked at where set |\n|---|---|---|---|---|\n");
+    for (int i = 0; i < SCREENS; i++) {
+        screens[i].set();
+        if (start[PPU_AT_MASK] & 0x18)
+            print_search(&screens[i]);
+    }
+}
+
+/* WHAT MOVED: the lines of the screens, each from a status of 0, and those that the archive before gives otherwise */
+static struct {
+    unsigned lines, pictures, records;
+    uint8_t bits[PPU_RECORD_LENGTH];
+} moved;
+
+static void compare_line(const Work *w)
+{
+    static Machine from, after;
+    m.unit[PPU_AT_STATUS] = 0;
+    from = m;
+    drawers[0].line(UNIT, TABLES, PALETTE, LINE);
+    after = m;
+    m = from;
+    unsigned number = ppu_number(drawers[BEFORE_AT].line(UNIT, TABLES, PALETTE, LINE));
+    if (number != PPU_DONE) {
+        fprintf(stderr, "bench: the archive before gives %u: %s\n", number, w->name);
+        exit(1);
+    }
+    moved.lines++;
+    moved.pictures += memcmp(m.line, after.line, sizeof m.line) || memcmp(m.colours, after.colours, sizeof m.colours);
+    moved.records += memcmp(m.unit, after.unit, sizeof m.unit) != 0;
+    for (unsigned i = 0; i < sizeof m.unit; i++)
+        moved.bits[i] |= m.unit[i] ^ after.unit[i];
+    m = after;
+}
+
+static void print_moved(void)
+{
+    for (int i = 0; i < SCREENS; i++) {
+        screens[i].set();
+        memcpy(m.unit, start, sizeof start);
+        for (unsigned k = 0; k < lines; k++)
+            compare_line(&screens[i]);
+    }
+    printf("\nbefore and after: of the %u lines of the screens %u differ in pixels or colours, %u in the record", moved.lines, moved.pictures, moved.records);
+    for (unsigned i = 0; i < sizeof moved.bits; i++)
+        if (moved.bits[i])
+            printf("; byte %u by $%02X", i, moved.bits[i]);
+    printf("\n");
+}
+
 /* TIME */
-/* the least that each piece of work took */
-static double of_screens[SCREENS][DRAWERS], of_frames[SCREENS][DRAWERS], of_calls[CALLS][DRAWERS], of_runs[RUNS][DRAWERS];
+/* the least that each piece of work took; 0 where a drawer cannot do it */
+static double of_screens[SCREENS][MEASURED], of_frames[SCREENS][MEASURED], of_calls[CALLS][MEASURED], of_runs[RUNS][MEASURED];
 
 /* A long pass is timed by the processor time of this process, which leaves out what others took of it meanwhile. */
-static void time_rounds(const Work *work, int count, double (*into)[DRAWERS], int by, int rounds, clockid_t clock)
+static void time_rounds(const Work *work, int count, double (*into)[MEASURED], int by, int rounds, clockid_t clock)
 {
     for (int i = 0; i < count; i++) {
         work[i].set();
@@ -225,7 +349,7 @@ static void time_rounds(const Work *work, int count, double (*into)[DRAWERS], in
                 double before = now(clock);
                 unsigned n = work[i].pass(&drawers[k]);
                 double each = (now(clock) - before) / n;
-                if (r > 0 && (into[i][k] == 0 || each < into[i][k]))
+                if (r > 0 && n > 0 && (into[i][k] == 0 || each < into[i][k]))
                     into[i][k] = each;
             }
     }
@@ -248,7 +372,7 @@ static void heads(const char *ours)
     printf("\n");
 }
 
-static void print_screens(const char *title, const char *ours, double (*ns)[DRAWERS])
+static void print_screens(const char *title, const char *ours, double (*ns)[MEASURED])
 {
     printf("\n%s\n\n", title);
     heads(ours);
@@ -263,7 +387,7 @@ static void print_screens(const char *title, const char *ours, double (*ns)[DRAW
     }
 }
 
-static void print_calls(double (*ns)[DRAWERS])
+static void print_calls(double (*ns)[MEASURED])
 {
     printf("\nns a call, and millions of calls a second\n\n| call | ns | millions a second |");
     for (int k = 1; k < DRAWERS; k++)
@@ -280,7 +404,7 @@ static void print_calls(double (*ns)[DRAWERS])
     }
 }
 
-static void print_runs(double (*ns)[DRAWERS])
+static void print_runs(double (*ns)[MEASURED])
 {
     printf("\n`ppu_run`, pictures with about three sprites a line: ns a line by the lines of one call\n\n");
     printf("| lines a call | ns a line | of the ns a line with 262 |\n|---|---|---|\n");
@@ -293,6 +417,16 @@ static void print_runs(double (*ns)[DRAWERS])
     printf("\nn lines cost n times a line: taken as %.1f ns, it fits all of them within %.1f %%.\n", (most + least) / 2, 100 * (most - least) / (most + least));
 }
 
+static void print_before(const char *title, const char *first, const Work *work, int count, double (*ns)[MEASURED])
+{
+    printf("\n%s, before and after\n\n| %s | before | after | after / before | difference |\n|---|---|---|---|---|\n", title, first);
+    for (int i = 0; i < count; i++) {
+        double before = ns[i][BEFORE_AT], after = ns[i][0], more = after - before;
+        if (before > 0)
+            printf("| %s | %.1f | **%.1f** | %.3f | %+.1f |\n", work[i].name, before, after, after / before, more * more < 0.0025 ? 0 : more);
+    }
+}
+
 enum { BLOCKS = 10 };
 
 /* A block of rounds. Each has the stack elsewhere in its page, so that no drawer's figure hangs on where its locals happen to lie. */
@@ -300,9 +434,9 @@ static void time_block(int block, int rounds)
 {
     volatile char room[1 + 400 * block];
     (void)room;
-    time_rounds(screens, SCREENS, of_screens, DRAWERS, rounds, CLOCK_MONOTONIC);
-    time_rounds(frames, SCREENS, of_frames, DRAWERS, rounds, CLOCK_MONOTONIC);
-    time_rounds(calls, CALLS, of_calls, DRAWERS, rounds, CLOCK_MONOTONIC);
+    time_rounds(screens, SCREENS, of_screens, MEASURED, rounds, CLOCK_MONOTONIC);
+    time_rounds(frames, SCREENS, of_frames, MEASURED, rounds, CLOCK_MONOTONIC);
+    time_rounds(calls, CALLS, of_calls, MEASURED, rounds, CLOCK_MONOTONIC);
     time_rounds(runs, RUNS, of_runs, 1, 2 + rounds / 20, CLOCK_PROCESS_CPUTIME_ID);
 }
 
@@ -314,20 +448,29 @@ static void time_all(int rounds)
     print_screens("ns a line, one to a call, and the ratio of `ppu_line` to the peers", "`ppu_line`", of_screens);
     print_calls(of_calls);
     print_runs(of_runs);
+    print_searches();
+    if (HAS_BEFORE) {
+        print_before("ns a line in runs of a frame", "screen", frames, SCREENS, of_frames);
+        print_before("ns a line, one to a call", "screen", screens, SCREENS, of_screens);
+        print_before("ns a call", "call", calls, CALLS, of_calls);
+        print_moved();
+    }
 }
 
 /* COUNT */
 void mark(void);
 
-/* what stands on a line by itself of what is printed: the work's kind and name, and the calls or lines that a drawer did */
+/* what stands on a line by itself of what is printed: the work's kind and name, and the calls or lines that the archive did */
 static void count_all(const char *kind, const Work *work, int count, int by)
 {
     for (int i = 0; i < count; i++) {
         unsigned n = 0;
         work[i].set();
         mark();
-        for (int k = 0; k < by; k++)
-            n = work[i].pass(&drawers[k]);
+        for (int k = 0; k < by; k++) {
+            unsigned done = work[i].pass(&drawers[k]);
+            n = k ? n : done;
+        }
         printf("%s\t%s\t%u\n", kind, work[i].name, n);
     }
 }
@@ -341,9 +484,9 @@ int main(int argc, char **argv)
     all_agree(calls, CALLS);
     all_agree(runs, RUNS - 1);
     if (!strcmp(mode, "count")) {
-        count_all("frame", frames, SCREENS, DRAWERS);
-        count_all("screen", screens, SCREENS, DRAWERS);
-        count_all("call", calls, CALLS, DRAWERS);
+        count_all("frame", frames, SCREENS, MEASURED);
+        count_all("screen", screens, SCREENS, MEASURED);
+        count_all("call", calls, CALLS, MEASURED);
         count_all("run", runs, RUNS, 1);
         mark();
         return 0;
@@ -352,6 +495,7 @@ int main(int argc, char **argv)
         fprintf(stderr, "usage: bench time ROUNDS (10 or more), or bench count\n");
         return 2;
     }
+    agree_crowded(&(Work){ "crowded", three_sprites, draw_lines });
     time_all(rounds);
     return 0;
 }

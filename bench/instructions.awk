@@ -1,11 +1,13 @@
 # The tables of instructions. First file: the pieces of work in their order, as `bench count` prints them: kind, name, calls or lines.
 # Then callgrind's part for each, with names written out: where a function is called, the line after `calls=` has what the call cost.
-# drawers: ppu plain_gcc table_gcc ..; a drawer's functions are ppu_line, ppu_run, .. A table without work is left out.
+# drawers: ppu plain_gcc table_gcc ..; a drawer's functions are ppu_line, ppu_run, .. A table without work is left out. Those of the archive before,
+# if there is one, are before_line, before_run, .., and have tables of their own.
 BEGIN {
     FS = "\t"
     count = split(drawers, drawer, " ")
     for (k = 1; k <= count; k++)
         known[drawer[k]] = 1
+    known["before"] = 1
 }
 FNR == 1 {
     file++
@@ -19,7 +21,7 @@ file == 1 {
 }
 # a drawer's call that it makes itself, as a peer's play its read, is in the cost of the outer one
 function whose(function_name) {
-    return match(function_name, /_(line|run|read|write|dma|play|text|page)$/) && substr(function_name, 1, RSTART - 1) in known ? substr(function_name, 1, RSTART - 1) : ""
+    return match(function_name, /_(line|run|read|write|dma|search|play|text|page)$/) && substr(function_name, 1, RSTART - 1) in known ? substr(function_name, 1, RSTART - 1) : ""
 }
 /^fn=/ {
     caller = whose(substr($0, 4))
@@ -52,10 +54,24 @@ function table(which, first, title, by, i, k, head, rule, any) {
             printf "\n"
         }
 }
+# the archive before and after, on what both can do
+function beside(which, first, title, i, old, new, any) {
+    for (i = 1; i <= works; i++)
+        if (kind[i] == which && (i, "before") in cost) {
+            if (!any++)
+                printf "\n%s, before and after\n\n| %s | before | after | after / before | difference |\n|---|---|---|---|---|\n", title, first
+            old = cost[i, "before"] / units[i]
+            new = cost[i, drawer[1]] / units[i]
+            printf "| %s | %.0f | **%.0f** | %.3f | %+.0f |\n", name[i], old, new, new / old, new - old
+        }
+}
 END {
     table("frame", "screen", "instructions a line in runs of a frame", count)
     table("screen", "screen", "instructions a line, one to a call", count)
     table("call", "call", "instructions a call", count)
     table("page", "call", "instructions a page", count)
     table("run", "lines a call", "instructions a line of `ppu_run`, pictures with about three sprites a line", 1)
+    beside("frame", "screen", "instructions a line in runs of a frame")
+    beside("screen", "screen", "instructions a line, one to a call")
+    beside("call", "call", "instructions a call")
 }

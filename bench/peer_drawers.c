@@ -1,7 +1,8 @@
 /* Line drawers to measure against, on the 16-byte record and by the calls of include/ppu.h. They set the measure of speed, not of truth.
    Compiled three times. The first two are ordinary C: the background a tile at a time, then a line of sprites, then one pass that merges
-   them, then one that gives each pixel number its colour. -DPFX=plain_ works out each pixel by itself with eight shifts a tile, and colours
-   them one by one; -DPFX=table_ -DSPREAD takes eight pixels at a time from a table of 256 words, and stores four colours at a time.
+   them, then one that gives each pixel number its colour. -DPFX=plain_ works out each pixel by itself with eight shifts a tile, searches for
+   overflow on every line, and colours pixels one by one; -DPFX=table_ -DSPREAD takes eight pixels at a time from a table of 256 words, searches
+   only where eight sprites are in range, and stores four colours at a time.
    -DPFX=sse2_ -DSSE2 is tuned by hand for plain x86-64: peer_sse2.h. */
 #include "peer.h"
 #include <string.h>
@@ -71,13 +72,45 @@ static inline void steps(u8 *u,int v){
 #ifdef SSE2
 #include "peer_sse2.h"
 #else
+/* Whether byte y is in range of line L. The search for overflow: the place of the sprite that sets the bit, 64 if none does. The choice of the
+   first eight sprites that cover line L: how many, and whether to search. */
+static inline int in(int y,int L,int h){ return (unsigned)(L-y)<(unsigned)h; }
+#ifdef SPREAD
+static int search(const u8 *o,int L,int h){
+  int n, b, found=0;
+  for(n=0;found<8;n++){ if(n==64) return 64; found+=in(o[4*n],L,h); }
+  for(b=0;n<64;n++,b=(b+1)&3) if(in(o[4*n+b],L,h)) break;
+  return n;
+}
+static inline int choose(int L,int h,const u8 *o,int *list,int *look){
+  int n, cnt=0, found=0;
+  for(n=0;n<64;n++){ int y=o[4*n];
+    if(L>0 && in(y,L-1,h) && cnt<8) list[cnt++]=n;
+    found+=in(y,L,h); }
+  *look=found>7; return cnt;
+}
+#else
+static int search(const u8 *o,int L,int h){
+  int n, b=0, found=0;
+  for(n=0;n<64;n++){
+    if(found<8) found+=in(o[4*n],L,h);
+    else if(in(o[4*n+b],L,h)) break;
+    else b=(b+1)&3; }
+  return n;
+}
+static inline int choose(int L,int h,const u8 *o,int *list,int *look){
+  int n, cnt=0;
+  for(n=0;n<64;n++) if(L>0 && in(o[4*n],L-1,h) && cnt<8) list[cnt++]=n;
+  *look=1; return cnt;
+}
+#endif
 #ifdef SPREAD
 static u64 spread[256]; static int spread_ready;
 static void mkspread(void){ for(int i=0;i<256;i++){ u8 b[8]; for(int k=0;k<8;k++) b[k]=(i>>(7-k))&1; memcpy(&spread[i],b,8);} spread_ready=1; }
 #endif
 static void drawline(u8 *u,const u8 *l,const u8 *r,const u8 *nt,const u8 *o,u8 *line){
   u8 bgb[33*8], sp[256+8]; int L=u[12], v=u[4]|u[5]<<8, ctl=u[0], mask=u[1], x=u[8], h=(ctl&32)?16:8;
-  int any=0, zero=0, i, k, n;
+  int any=0, zero=0, i, k;
 #ifdef SPREAD
   if(!spread_ready) mkspread();
 #endif
@@ -99,10 +132,7 @@ static void drawline(u8 *u,const u8 *l,const u8 *r,const u8 *nt,const u8 *o,u8 *
     if(!(mask&2)) memset(line,0,8);
   } else memset(line,0,256);
   /* sprites */
-  int list[8], cnt=0, over=0;
-  for(n=0;n<64;n++){ int y=o[4*n];
-    if(L>0 && (unsigned)(L-1-y)<(unsigned)h && cnt<8) list[cnt++]=n;
-    over += (unsigned)(L-y)<(unsigned)h; }
+  int list[8], look, cnt=choose(L,h,o,list,&look);
   if((mask&16)&&cnt){
     memset(sp,0,sizeof sp);
     for(i=cnt-1;i>=0;i--){ const u8 *s=o+4*list[i]; int rr=L-1-s[0], at=s[2], tile=s[1]; const u8 *tb; 
@@ -119,7 +149,7 @@ static void drawline(u8 *u,const u8 *l,const u8 *r,const u8 *nt,const u8 *o,u8 *
       for(i=0;i<256;i++){ u8 s=sp[i], b=line[i]; zero|=(s&64)&&b; line[i]=(s && !((s&32)&&b)) ? (s&31) : b; } }
   }
   if(zero) u[2]|=64;
-  if(over>8) u[2]|=32;
+  if(look && search(o,L,h)<64) u[2]|=32;
   steps(u,v);
 }
 /* Colours are looked up by pixel number. Of the ordinary ways with 32 entries gcc's fastest stores four at a time, two such stores a step:
@@ -171,6 +201,13 @@ u64 ppu_run(u8 *u,size_t un,u16 m,const u8 *l,size_t ln,const u8 *r,size_t rn,co
   if(!ok(u)) return 3;
   if(u[0]&128){ int f=(241-(u[12]|u[13]<<8)+262)%262+1; if(f<m) m=f; }
   lines(u,m,l,r,n,o,p,b,c); return RET(u,0,m);
+}
+u64 ppu_search(const u8 *u,size_t un,u16 L,const u8 *o,size_t on){
+  if(L>239) return 5;
+  if(un!=16||on!=256) return 2;
+  if(!ok(u)) return 3;
+  int n=search(o,L,(u[0]&32)?16:8);
+  return RET(u,0,0)|(u64)(n<64?n+1:64)<<24;
 }
 u64 ppu_play(u8 *u,size_t un,const u8 *g,size_t gn,u8 *l,size_t ln,u8 *r,size_t rn,u8 *n,size_t nn,u8 *o,size_t on,u8 *p,size_t pn,
              u8 *b,size_t bn,u8 *c,size_t cn){

@@ -38,25 +38,51 @@ static inline void background(const u8 *u,int v,const u8 *tb,const u8 *nt,u8 *li
   for(int i=0;i<256;i+=16) store(line+i,load(row+8*(v&3)+u[8]+i));
 }
 
-/* CHOICE: the Y bytes of 16 sprites; which of them y have y <= n and n - y <= h; the sprites that cover line L, as bits, and overflow */
+/* IN RANGE: y is in range of a line if y - least, modulo 256, is at most span. Of 16 bytes those in range; the Y bytes of 16 sprites; of 64 bytes
+   those that are not 0, as bits, and whether they are eight or more */
+typedef struct { __m128i least, span; } Range;
+static inline Range range(int L,int h){ int span=L<h?L:h-1; return (Range){ _mm_set1_epi8(L-span), _mm_set1_epi8(span) }; }
+static inline __m128i above(__m128i y,Range r){ return _mm_sub_epi8(y,r.least); }
+static inline __m128i upto(__m128i d,Range r){ return _mm_cmpeq_epi8(_mm_min_epu8(d,r.span),d); }
+static inline __m128i within(__m128i y,Range r){ return upto(above(y,r),r); }
 static inline __m128i ys(const u8 *o){
   const __m128i m=_mm_set1_epi32(255);
   __m128i a=_mm_and_si128(load(o),m), b=_mm_and_si128(load(o+16),m), c=_mm_and_si128(load(o+32),m), d=_mm_and_si128(load(o+48),m);
   return _mm_packus_epi16(_mm_packs_epi32(a,b),_mm_packs_epi32(c,d));
 }
-static inline __m128i within(__m128i n,__m128i y,__m128i h){
-  __m128i d=_mm_sub_epi8(n,y);
-  return _mm_and_si128(_mm_cmpeq_epi8(_mm_min_epu8(y,n),y),_mm_cmpeq_epi8(_mm_min_epu8(d,h),d));
+static inline u64 bits(__m128i a,__m128i b,__m128i c,__m128i d){
+  u32 low=_mm_movemask_epi8(a)|(u32)_mm_movemask_epi8(b)<<16, high=_mm_movemask_epi8(c)|(u32)_mm_movemask_epi8(d)<<16;
+  return low|(u64)high<<32;
 }
+static inline int eight(__m128i a,__m128i b,__m128i c,__m128i d){
+  __m128i none=_mm_setzero_si128(), n=_mm_sad_epu8(_mm_sub_epi8(none,_mm_add_epi8(_mm_add_epi8(a,b),_mm_add_epi8(c,d))),none);
+  return _mm_cvtsi128_si32(n)+_mm_extract_epi16(n,4)>=8;
+}
+
+/* OVERFLOW: the place of the sprite that sets the bit, 64 if none does; past the eighth of the sprites m; from all Y bytes; from OAM.
+   Of the 16 bytes of four sprites the search looks at 0, 5, 10 and 15; two times four are tried at once, by the lesser of their bytes. */
+enum { LOOKED=0x8421 };
+static inline int past_eighth(u64 m,Range r,const u8 *o){
+  int n, hit;
+  for(n=0;n<7;n++) m&=m-1;
+  for(n=__builtin_ctzll(m)+1;n<=56;n+=8)
+    if(_mm_movemask_epi8(upto(_mm_min_epu8(above(load(o+4*n),r),above(load(o+4*n+16),r)),r))&LOOKED) break;
+  for(;n<=60;n+=4) if((hit=_mm_movemask_epi8(within(load(o+4*n),r))&LOOKED)) return n+__builtin_ctz(hit)/4;
+  if(n==64) return 64;
+  hit=_mm_movemask_epi8(within(load(o+240),r))&LOOKED<<4*(n-60)&0xFFFF;
+  return hit?60+__builtin_ctz(hit)/4:64;
+}
+static inline int searched(__m128i a,__m128i b,__m128i c,__m128i d,Range r,const u8 *o){
+  a=within(a,r); b=within(b,r); c=within(c,r); d=within(d,r);
+  return eight(a,b,c,d)?past_eighth(bits(a,b,c,d),r,o):64;
+}
+static inline int search(const u8 *o,int L,int h){ return searched(ys(o),ys(o+64),ys(o+128),ys(o+192),range(L,h),o); }
+
+/* CHOICE: the sprites that cover line L, as bits, and overflow */
 static inline u64 choose(u8 *u,int L,int h,const u8 *o){
-  const __m128i n=_mm_set1_epi8(L), above=_mm_set1_epi8(L-1), h1=_mm_set1_epi8(h-1);
-  __m128i over=_mm_setzero_si128(); u64 m=0;
-  for(int k=0;k<4;k++){
-    __m128i y=ys(o+64*k);
-    over=_mm_sub_epi8(over,within(n,y,h1)); m|=(u64)_mm_movemask_epi8(within(above,y,h1))<<16*k; }
-  over=_mm_sad_epu8(over,_mm_setzero_si128());
-  if(_mm_cvtsi128_si32(over)+_mm_extract_epi16(over,4)>8) u[2]|=32;
-  return L?m:0;
+  const Range r=range(L-1,h); __m128i a=ys(o), b=ys(o+64), c=ys(o+128), d=ys(o+192);
+  if(searched(a,b,c,d,range(L,h),o)<64) u[2]|=32;
+  return L?bits(within(a,r),within(b,r),within(c,r),within(d,r)):0;
 }
 
 /* SPRITES: the eight pixels of one; whether sprite 0's meet the background; those that cover the line over it */

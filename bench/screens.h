@@ -1,4 +1,4 @@
-/* The memory that the calls are lent, and the eight kinds of screen. A screen is memory, the record before its first line, and how many lines
+/* The memory that the calls are lent, and the kinds of screen. A screen is memory, the record before its first line, and how many lines
    are drawn from there: those on which the sprites are as its name says. */
 #ifndef SCREENS_H
 #define SCREENS_H
@@ -100,6 +100,20 @@ static void tall_sprites(void)
     for (int i = 0; i < 64; i++)
         set_sprite(i, 80 + 16 * (unsigned)(i / 8), any(4) + 32 * any(8), any(256));
 }
+
+/* Fifteen lines that have all of `count` sprites of 8x16 in range and show eight of them; they stand in OAM from place `at` on, the rest is $FF.
+   What differs is the search for overflow: past the first eight it looks at all the rest, past the last eight nothing is left, and a ninth sets
+   the bit at once. */
+static void only_sprites(int at, int count)
+{
+    set_screen(0x30, 0x1E, 81, 15);
+    for (int i = at; i < at + count; i++)
+        set_sprite(i, 80, any(4) + 32 * any(8), any(256));
+}
+
+static void eight_first(void) { only_sprites(0, 8); }
+static void eight_last(void) { only_sprites(56, 8); }
+static void nine_first(void) { only_sprites(0, 9); }
 
 /* scattered sprites too, a unit that could be any, and all in emphasised greys */
 static void random_screen(void)

@@ -69,6 +69,14 @@ static inline void screen_bits(Screen *s, int row, const char *name, unsigned by
         screen_text(s, VALUE_COLUMN + 4 + (int)i, row, byte >> (7 - i) & 1 ? LIVELY : QUIET, "%u", byte >> (7 - i) & 1);
 }
 
+/* How many sprites the search for sprite overflow looks at on the next line, if that is drawn: with fewer than 64 it sets status bit 5. */
+static inline void screen_search(Screen *s, int row, const Play *p)
+{
+    uint64_t answer = ppu_search(p->unit, sizeof p->unit, (uint16_t)play_word(p, PPU_AT_NEXT_LINE), p->oam, sizeof p->oam);
+    if (ppu_number(answer) == PPU_DONE && p->unit[PPU_AT_MASK] & 0x18)
+        screen_text(s, VALUE_COLUMN + 4, row, ppu_looked(answer) < 64 ? LIVELY : QUIET, "SEARCH %u", ppu_looked(answer));
+}
+
 static inline void screen_unit(Screen *s, int row, const Play *p)
 {
     const uint8_t *unit = p->unit;
@@ -82,6 +90,7 @@ static inline void screen_unit(Screen *s, int row, const Play *p)
     screen_value(s, row++, "W", "%u", unit[PPU_AT_W]);
     screen_value(s, row++, "READ BUFFER", "$%02X", unit[PPU_AT_READ_BUFFER]);
     screen_value(s, row++, "LATCH", "$%02X", unit[PPU_AT_LATCH]);
+    screen_search(s, row, p);
     screen_value(s, row++, "NEXT LINE", "%u", play_word(p, PPU_AT_NEXT_LINE));
     screen_value(s, row++, "WARMED UP", "%u", unit[PPU_AT_WARMED_UP]);
     screen_value(s, row++, "BOARD", "$%02X", unit[PPU_AT_BOARD]);

@@ -49,7 +49,7 @@ make_as_user() { make --no-print-directory -s "$@" ARCHIVE="$archive" TEXT_ARCHI
 test_install() {
     make_as_user install PREFIX="$prefix"
     local name names=(include/ppu.h lib/libppu.a lib/libppu-text.a lib/pkgconfig/ppu.pc lib/pkgconfig/ppu-text.pc bin/ppu-player)
-    [ ! -e tools/build ] || names+=(bin/ppu-picture bin/ppu-text bin/ppu-log bin/ppu-batch)
+    [ ! -e tools/build ] || names+=(bin/ppu-picture bin/ppu-text bin/ppu-search bin/ppu-log bin/ppu-batch)
     [ "$(cd "$prefix" && find . -type f | sort)" = "$(printf './%s\n' "${names[@]}" | sort)" ] || fail "make install has put $(find "$prefix" -type f)"
     cmp include/ppu.h "$prefix/include/ppu.h"
     cmp "$archive" "$prefix/lib/libppu.a"
@@ -323,9 +323,10 @@ test_time() {
     say "60 pictures in $took ms, with the start; the space bar plays and pauses"
 }
 
-# What the panel says of a log's last record is what the player prints of it: the line that it prints for that record, or none for a write.
+# What the panel says of a log's last record is what the player prints of it: the line that it prints for that record, or none for a write. After a
+# run it says of the next line's search what tests/searches.py works out.
 panel_like_player() {
-    local log=$1 records printed wanted
+    local log=$1 records printed wanted next nmi search
     records=$((($(stat -c %s "$log") + 3) / 4))
     start checked --scale 1 "$log"
     title "$(basename "$log"): picture *, end of log"
@@ -336,7 +337,13 @@ panel_like_player() {
     printed=$(tail -n +$(($(wc -l <"$out/before") + 1)) "$out/all")
     case $printed in
     "") wanted=(DONE) ;;
-    line*) read -r _ next _ nmi <<<"$printed" && wanted=(DONE "NEXT LINE   $next" "NMI LEVEL   $nmi") ;;
+    line*)
+        read -r _ next _ nmi <<<"$printed"
+        search=$(look search "$log")
+        searches+="${search#SEARCH} "
+        [ -z "$search" ] || next=$(printf '%-3s %s' "$next" "$search")
+        wanted=(DONE "NEXT LINE   $next" "NMI LEVEL   $nmi")
+        ;;
     refused*) wanted=("REFUSED ${printed#refused }: .*" "LAST REFUSAL ${printed#refused } AT $records") ;;
     *) wanted=("GAVE \$$printed") ;;
     esac
@@ -348,12 +355,14 @@ panel_like_player() {
 }
 
 test_panel() {
-    local compared=0 log
+    local compared=0 searches='' log
     for log in "$out"/panel-*.log; do
         panel_like_player "$log"
     done
     [ "$compared" -gt 10 ] || fail "no logs for the panel"
+    [[ "$searches" = *64* && "${searches//64/}" = *[0-9]* ]] || fail "searches of the next line: $searches"
     say "the panel says of the last record what the player prints, on $compared logs, cut and bad and random ones too; with the sanitizers"
+    say "the panel says of the next line's search what is worked out: $(xargs <<<"$searches") sprites looked at"
 }
 
 test_viewer() {

@@ -147,12 +147,13 @@ static void flags_stay(void)
     part("set flags stay until line 261");
 }
 
-/* OVERFLOW. So many sprites with this Y byte, spread over OAM, seen by the line itself */
-static void spread(unsigned count, unsigned y)
+/* OVERFLOW, by the search that tests/search.c follows byte by byte. So many sprites with this Y byte, from this place on and so far apart; eight
+   from place 0, seven apart, have the eighth at place 49 */
+static void spread(unsigned count, unsigned y, unsigned first, unsigned apart)
 {
     no_sprites(&m);
     for (unsigned i = 0; i < count; i++)
-        set_sprite(&m, (int)(i * 7 % 64), y, i % 2, (i * 16) % 256, (i * 53) % 256);
+        set_sprite(&m, (int)((first + i * apart) % 64), y, i % 2, (i * 16) % 256, (i * 53) % 256);
 }
 
 static void overflow_counts(void)
@@ -161,11 +162,15 @@ static void overflow_counts(void)
         begin(0, mask, 0);
         for (unsigned count = 0; count <= 64; count++) {
             at = count;
-            spread(count, 30);
-            expect_status(33, count > 8 ? 0x20 : 0);
+            for (unsigned first = 0; first + count <= 64; first++) {
+                spread(count, 30, first, 1);
+                expect_status(33, count > 8 ? 0x20 : 0);
+            }
+            spread(count, 30, 0, 7);
+            expect_status(33, search_by_steps(&m, 33).set ? 0x20 : 0);
         }
     }
-    part("0 to 64 sprites on a line: overflow from nine, with either of mask bits 3 and 4");
+    part("0 to 64 sprites on a line: overflow from nine in a row, with either of mask bits 3 and 4; spread, as the search says");
 }
 
 static void overflow_lines(void)
@@ -173,31 +178,39 @@ static void overflow_lines(void)
     for (unsigned tall = 0; tall < 2; tall++) {
         begin(tall ? 0x20 : 0, 0x1E, 0);
         for (unsigned y = 0; y < 256; y++) {
-            spread(9, y);
+            spread(9, y, y % 56, 1);
             for (unsigned line = 0; line < 240; line++) {
                 at = (long)(1000 * y + line);
                 if (around(line, y))
                     expect_status(line, line >= y && line < y + (tall ? 16 : 8) ? 0x20 : 0);
             }
-            spread(8, y);
+            spread(8, y, y % 57, 1);
             expect_status(y < 240 ? y : 239, 0);
         }
     }
     part("overflow on the lines from the Y byte on, by the line itself: lines 0 and 239 too");
 }
 
-/* eight on a line and a ninth one line above or below */
+/* eight on a line and a ninth one line above or below: the next after the eighth; the last, whose tile byte is looked at and not its Y byte */
 static void overflow_edges(void)
 {
     begin(0, 0x10, 0);
     for (unsigned y = 0; y < 256; y++) {
+        unsigned above = y >= 93 && y <= 100 ? 0x20 : 0, below = y >= 100 && y <= 107 ? 0x20 : 0;
         at = y;
-        spread(8, 100);
-        set_sprite(&m, 63, y, 0, 0, 0);
-        expect_status(100, y >= 93 && y <= 100 ? 0x20 : 0);
-        expect_status(107, y >= 100 && y <= 107 ? 0x20 : 0);
+        spread(8, 100, 0, 7);
+        set_sprite(&m, 50, y, 0, 0, 0);
+        expect_status(100, above);
+        expect_status(107, below);
+        spread(8, 100, 0, 7);
+        set_sprite(&m, 63, y, 0, y, y);
+        expect_status(100, 0);
+        expect_status(107, 0);
+        set_sprite(&m, 63, 0, y, 0, 0);
+        expect_status(100, above);
+        expect_status(107, below);
     }
-    part("eight sprites and a ninth at every Y");
+    part("eight sprites and a ninth at every Y, or a tile byte of every value taken for one");
 }
 
 static void overflow_elsewhere(void)
@@ -205,15 +218,15 @@ static void overflow_elsewhere(void)
     begin(0, 0, 0);
     for (unsigned line = 0; line < 240; line++) {
         at = line;
-        spread(64, line);
+        spread(64, line, 0, 1);
         expect_status(line, 0);
     }
     begin(0, 0x18, 1);
     for (unsigned line = 240; line < 262; line++) {
         at = line;
-        spread(64, line < 256 ? line : 255);
+        spread(64, line < 256 ? line : 255, 0, 1);
         expect_status(line, line == 241 ? 0x80 : 0);
-        spread(64, line - 1 < 256 ? line - 1 : 255);
+        spread(64, line - 1 < 256 ? line - 1 : 255, 0, 1);
         expect_status(line, line == 241 ? 0x80 : 0);
     }
     part("no hit and no overflow with mask bits 3 and 4 clear, nor on lines 240 to 261");

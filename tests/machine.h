@@ -115,6 +115,9 @@ static inline uint64_t answer(unsigned byte, unsigned nmi, unsigned lines)
     return (uint64_t)byte << 8 | (uint64_t)nmi << 16 | (uint64_t)lines << 32;
 }
 
+/* that of a search: the sprites it looked at */
+static inline uint64_t looked_answer(unsigned looked, unsigned nmi) { return (uint64_t)looked << 24 | (uint64_t)nmi << 16; }
+
 static inline uint64_t read_at(Machine *m, unsigned address)
 {
     return ppu_read(m->unit, m->length[UNIT], (uint16_t)address, m->left, m->length[LEFT], m->right, m->length[RIGHT], m->nametables,
@@ -130,6 +133,11 @@ static inline uint64_t write_at(Machine *m, unsigned address, unsigned byte)
 static inline uint64_t sprite_dma(Machine *m)
 {
     return ppu_dma(m->unit, m->length[UNIT], m->oam, m->length[OAM], m->page, m->length[PAGE]);
+}
+
+static inline uint64_t search_on(Machine *m, unsigned line)
+{
+    return ppu_search(m->unit, m->length[UNIT], (uint16_t)line, m->oam, m->length[OAM]);
 }
 
 static inline uint64_t one_line(Machine *m)

@@ -139,4 +139,33 @@ static inline void colour_line(Machine *wanted, const Machine *before)
         set_word(wanted->colours, 2 * p, finished_colour(before, shown_cell(before, wanted->line[p])));
 }
 
+/* SPRITE OVERFLOW, by document 02 */
+static inline unsigned sprite_height(const Machine *m) { return m->unit[PPU_AT_CONTROL] / 32 % 2 ? 16 : 8; }
+
+/* a byte tried as a Y byte on this line */
+static inline int in_range(const Machine *m, unsigned y, unsigned line) { return y <= line && line < y + sprite_height(m); }
+
+typedef struct {
+    unsigned looked;
+    int set;
+} Search;
+
+/* the search on this line, a step for each sprite: those looked at, and whether the bit is set */
+static inline Search search_by_steps(const Machine *m, unsigned line)
+{
+    Search s = { 0, 0 };
+    unsigned found = 0, byte = 0;
+    while (s.looked < 64 && !s.set) {
+        int here = in_range(m, m->oam[4 * s.looked + byte], line);
+        s.looked++;
+        if (found < 8)
+            found += here ? 1 : 0;
+        else if (here)
+            s.set = 1;
+        else
+            byte = (byte + 1) % 4;
+    }
+    return s;
+}
+
 #endif

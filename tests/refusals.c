@@ -2,13 +2,14 @@
    Every unit here has bit 7 of control and status set, so that the NMI level 0 of a refusal is not the unit's own. */
 #include "machine.h"
 
-/* RUN of five lines, NO_RUN of none */
-enum { READ, WRITE, DMA, A_LINE, RUN, NO_RUN, CALLS };
+/* SEARCH on a line that the address gives, RUN of five lines, NO_RUN of none */
+enum { READ, WRITE, DMA, SEARCH, A_LINE, RUN, NO_RUN, CALLS };
 
 static const int takes[CALLS][BUFFERS] = {
     { UNIT, LEFT, RIGHT, NAMETABLES, OAM, PALETTE, -1 },
     { UNIT, LEFT, RIGHT, NAMETABLES, OAM, PALETTE, -1 },
     { UNIT, OAM, PAGE, -1 },
+    { UNIT, OAM, -1 },
     { UNIT, LEFT, RIGHT, NAMETABLES, OAM, PALETTE, LINE, COLOURS, -1 },
     { UNIT, LEFT, RIGHT, NAMETABLES, OAM, PALETTE, LINE, COLOURS, -1 },
     { UNIT, LEFT, RIGHT, NAMETABLES, OAM, PALETTE, LINE, COLOURS, -1 },
@@ -25,6 +26,8 @@ static uint64_t call(int which, unsigned address)
         return write_at(&m, address, 0x3C);
     case DMA:
         return sprite_dma(&m);
+    case SEARCH:
+        return search_on(&m, address % 240);
     case A_LINE:
         return one_line(&m);
     default:
@@ -280,7 +283,7 @@ static void order(void)
             lend_filled(takes[which][i], right_lengths[takes[which][i]] - 1);
             expect_refused(which, 0, 2);
         }
-    part("refusals together, of sprite DMA, lines and runs: 2 before 3");
+    part("refusals together, of sprite DMA, searches, lines and runs: 2 before 3");
 }
 
 /* lengths and the record are tested before a line that does not draw, too */

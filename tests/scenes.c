@@ -25,16 +25,12 @@ static int shown(unsigned mask, unsigned layer, unsigned left, unsigned p) { ret
 /* what the line must be, and the status bits it must set */
 static unsigned paint_line(unsigned line, unsigned column, unsigned row)
 {
-    unsigned control = m.unit[PPU_AT_CONTROL], mask = m.unit[PPU_AT_MASK], height = control & 32 ? 16 : 8, status = 0;
-    unsigned chosen[8], count = 0, over = 0;
+    unsigned mask = m.unit[PPU_AT_MASK], height = sprite_height(&m), status = 0, chosen[8], count = 0;
     const uint8_t *front[256] = { 0 };
     uint8_t colour_of[256] = { 0 };
-    for (unsigned i = 0; i < 64; i++) {
+    for (unsigned i = 0; i < 64; i++)
         if (line > 0 && count < 8 && m.oam[4 * i] + 1u <= line && line <= m.oam[4 * i] + height)
             chosen[count++] = i;
-        if (m.oam[4 * i] <= line && line < m.oam[4 * i] + height)
-            over++;
-    }
     for (unsigned p = 0; p < 256; p++)
         wanted.line[p] = (uint8_t)(shown(mask, 8, 2, p) ? background_at(&m, column + p, row) : 0);
     while (count-- > 0) {
@@ -52,7 +48,7 @@ static unsigned paint_line(unsigned line, unsigned column, unsigned row)
     for (unsigned p = 0; p < 256; p++)
         if (front[p] && !(front[p][2] & 0x20 && wanted.line[p]))
             wanted.line[p] = (uint8_t)sprite_number(front[p], colour_of[p]);
-    return over > 8 ? status | 0x20 : status;
+    return search_by_steps(&m, line).set ? status | 0x20 : status;
 }
 
 /* one line of a scene, whole: picture, colours, record and memory */

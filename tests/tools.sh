@@ -1,8 +1,9 @@
 #!/usr/bin/env bash
 # The commands of tools/ on the archives: pictures against the captures and against drawings of tests/pictures.py; texts against those of
-# tests/texts.py; ppu-log both ways; batches, one that goes on after an interruption too; bad input to each: one line, a status, no file left behind.
-# PPU_ARCHIVE and PPU_TEXT_ARCHIVE name other archives than target/staticlib/libppu.a and libtext.a. Without libpng only ppu-log and ppu-text are
-# tested, and it says so.
+# tests/texts.py; searches for sprite overflow against those of tests/searches.py and the captures' answers; ppu-log both ways; batches, one that goes
+# on after an interruption too; bad input to each: one line, a status, no file left behind.
+# PPU_ARCHIVE and PPU_TEXT_ARCHIVE name other archives than target/staticlib/libppu.a and libtext.a. Without libpng only ppu-log, ppu-text and
+# ppu-search are tested, and it says so.
 # shellcheck disable=SC2016 # a $ in quotes is the mark of a hexadecimal number here
 set -euo pipefail
 cd "$(dirname "$0")/.."
@@ -30,6 +31,11 @@ pictures() {
 
 texts() {
     python3 "$root/tests/texts.py" "$@" || fail "texts.py $*"
+    passed
+}
+
+searches() {
+    python3 "$root/tests/searches.py" "$@" || fail "searches.py $*"
     passed
 }
 
@@ -181,15 +187,15 @@ interrupted() { # LOG COMMAND..
     passed
 }
 
-# TEXTS
-
-# What ppu-text says on standard error, besides its status, which must be this one.
-says() { # STATUS FILE WORD..
+# What a command says on standard error, besides its status, which must be this one.
+says() { # STATUS FILE COMMAND..
     local status=0
-    ppu-text "${@:3}" >said 2>errors || status=$?
-    [ "$status" -eq "$1" ] || fail "ppu-text ${*:3}: status $status, not $1; it said: $(cat errors)"
-    same "what ppu-text ${*:3} says" errors "$2"
+    "${@:3}" >said 2>errors || status=$?
+    [ "$status" -eq "$1" ] || fail "${*:3}: status $status, not $1; it said: $(cat errors)"
+    same "what ${*:3} says" errors "$2"
 }
+
+# TEXTS
 
 text_screens() {
     local count
@@ -236,29 +242,29 @@ text_strict() {
     { printf ' ' && head -c 64 /dev/zero && printf '\a' && head -c 190 /dev/zero; } >bell
     log_of "$log" "${before[@]}" 'W 2007 41' 'RUN 262'
     text "ppu-text: $log: picture 2: 1 tile without a character" "ppu-text: $log: picture 3: 2 tiles without a character" >expected
-    says 0 expected --table some.tbl "$log"
-    says 6 expected --table some.tbl --strict "$log"
-    says 6 expected --table some.tbl --strict --json "$log"
+    says 0 expected ppu-text --table some.tbl "$log"
+    says 6 expected ppu-text --table some.tbl --strict "$log"
+    says 6 expected ppu-text --table some.tbl --strict --json "$log"
     [ "$(grep -c '"tiles_without_character": [012]}$' said)" -eq 3 ] || fail "--json: $(cat said)"
     text "ppu-text: $log: picture 3: 2 tiles without a character" >expected
-    says 6 expected --table some.tbl --strict --last "$log"
-    says 0 /dev/null --table some.tbl --strict --quarter 1 "$log"
+    says 6 expected ppu-text --table some.tbl --strict --last "$log"
+    says 0 /dev/null ppu-text --table some.tbl --strict --quarter 1 "$log"
     text "ppu-text: $log: picture 2: 1 control character, written as ?" "ppu-text: $log: picture 3: 2 control characters, written as ?" >expected
-    says 0 expected --table bell --strict "$log"
+    says 0 expected ppu-text --table bell --strict "$log"
     [ "$(grep -c '^??* *$' said)" -eq 2 ] || fail "control characters: $(cat said)"
-    says 0 /dev/null --table bell --strict --json "$log"
+    says 0 /dev/null ppu-text --table bell --strict --json "$log"
     [ "$(grep -o '\\u0007' said | wc -l)" -eq 3 ] || fail "control characters in JSON: $(cat said)"
     log_of "$log" 'R 1FFF' "${before[@]}" 'RAW 03 20 00 00' 'RUN 262'
     text "ppu-text: $log: record 1: refused 1: address \$1FFF is outside \$2000-\$3FFF" "ppu-text: $log: picture 2: 1 tile without a character" \
         "ppu-text: $log: record 7: refused 5: unknown kind \$03, not 0 read, 1 write or 2 run" >expected
-    says 4 expected --table some.tbl --strict "$log"
+    says 4 expected ppu-text --table some.tbl --strict "$log"
     [ "$(wc -l <said)" -eq 62 ] || fail "not the two screens before the 5"
-    says 4 expected --table some.tbl -o said.txt "$log"
+    says 4 expected ppu-text --table some.tbl -o said.txt "$log"
     [ "$(wc -l <said.txt)" -eq 62 ] || fail "not the two screens before the 5 in a file"
     log_of "$log" 'R 1FFF' "${before[@]}"
     sed -i 3d expected
-    says 0 expected --table some.tbl "$log"
-    says 1 expected --table some.tbl --strict "$log"
+    says 0 expected ppu-text --table some.tbl "$log"
+    says 1 expected ppu-text --table some.tbl --strict "$log"
     passed 5
     rm some.tbl bell "$log" said said.txt errors expected
 }
@@ -272,13 +278,13 @@ text_many() {
         text "ppu-text: many.log: picture $k: 960 tiles without a character"
     done >expected
     text "ppu-text: many.log: $((23 * 960)) tiles without a character in all, in 23 screens" >>expected
-    says 6 expected --table some.tbl --strict many.log
+    says 6 expected ppu-text --table some.tbl --strict many.log
     [ "$(wc -l <said)" -eq $((23 * 31)) ] || fail "not 23 screens"
     { text 'RUN 262' && printf 'R 4000\n%.0s' {1..5000}; } | ppu-log make -o many.log
     says 1 <(for k in $(seq 2 11); do
         text "ppu-text: many.log: record $k: refused 1: address \$4000 is outside \$2000-\$3FFF"
     done && text 'ppu-text: many.log: picture 1: 960 tiles without a character' \
-        'ppu-text: many.log: 5000 records refused in all: 5000 with 1, 0 with 2, 0 with 3, 0 with 4, 0 with 5') --table some.tbl --strict --last many.log
+        'ppu-text: many.log: 5000 records refused in all: 5000 with 1, 0 with 2, 0 with 3, 0 with 4, 0 with 5') ppu-text --table some.tbl --strict --last many.log
     passed
     rm some.tbl many.log said errors expected
 }
@@ -453,6 +459,86 @@ text_errors() {
     refuses 5 'ppu-text: empty.log: the log is empty' ppu-text --table "$table" -o shown empty.log
     refuses 5 'ppu-text: short.log: no whole picture: the log ends before line 239' ppu-text --table "$table" -o shown short.log
     refuses 5 'ppu-text: .*: no picture: it has 4 whole pictures, --every 5' ppu-text --table "$table" --every 5 -o shown "$log"
+    rm empty.log short.log cut.log long.log
+}
+
+# SEARCHES
+
+search_pictures() {
+    local said lines set answers bits
+    searches figures
+    searches example
+    said=$(searches crowds)
+    read -r lines set <<<"$said"
+    [ "$set" -gt 500 ] || fail "of $lines lines of crowds only $set set the bit"
+    passed "$lines"
+    echo "  ppu-search: $lines lines of random crowds, $set of them set the bit"
+    said=$(searches captures captured raw)
+    read -r lines set answers bits <<<"$said"
+    { [ "$set" -gt 500 ] && [ "$bits" -gt 100 ]; } || fail "of $lines lines of the captures $set set the bit, of $answers answers $bits have it"
+    passed $((lines + answers))
+    echo "  ppu-search: $lines lines of the captures, $set of them set the bit; status bit 5 of $answers answers of the emulator, set in $bits"
+}
+
+search_options() {
+    local log=captured/rndram_w2.log
+    ppu-search "$log" >all
+    [ "$(grep -c '^picture ' all)" -gt 50 ] || fail "ppu-search: $(grep -c '^picture ' all) pictures"
+    ppu-search -o shown "$log"
+    same "ppu-search -o FILE" shown all
+    ppu-search - <"$log" >shown
+    same "ppu-search of standard input" shown all
+    ppu-search --last --all "$log" >shown
+    [ "$(wc -l <shown)" -eq 241 ] || fail "ppu-search --last --all: $(wc -l <shown) rows"
+    passed 2
+    rm all shown
+}
+
+# Refusals are said by record and number, and the play goes on, but not after a 5; the pictures before it are kept.
+search_refusals() {
+    local before=('RUN 262' 'R 1FFF' 'W 2001 08' 'R 2004' 'RUN 262')
+    text 'ppu-search: refused.log: record 2: refused 1: address $1FFF is outside $2000-$3FFF' \
+        'ppu-search: refused.log: record 4: refused 4: read of port 4 while drawing' >expected
+    log_of refused.log "${before[@]}"
+    says 0 expected ppu-search refused.log
+    says 1 expected ppu-search --strict refused.log
+    { text 'picture 1' '0 lines searched: bit set on none' 'picture 2' && printf 'line %u: 9 sprites looked at, set by sprite 8, Y $00\n' {0..7} &&
+        text '240 lines searched: bit set on 8, first on line 0'; } >pictures
+    same "the searches of an OAM that is all zero" said pictures
+    log_of refused.log "${before[@]}" 'RAW 03 20 00 00' 'RUN 262'
+    text 'ppu-search: refused.log: record 6: refused 5: unknown kind $03, not 0 read, 1 write or 2 run' >>expected
+    says 4 expected ppu-search --strict refused.log
+    same "the pictures before the 5" said pictures
+    says 4 expected ppu-search -o said.txt refused.log
+    same "the pictures before the 5 in a file" said.txt pictures
+    rm refused.log expected said said.txt errors pictures
+}
+
+search_errors() {
+    local log=$root/examples/picture.log
+    : >empty.log
+    log_of short.log 'RUN 239' 'R 2002'
+    log_of cut.log 'RUN 100' 'RAW 02 01 06'
+    log_of long.log 'RUN 65535'
+    refuses 2 'ppu-search: no log given' ppu-search
+    refuses 2 'ppu-search: b: one log at a time' ppu-search a b
+    refuses 2 'ppu-search: --colour: no such option' ppu-search --colour "$log"
+    refuses 2 'ppu-search: --all=1: takes no argument' ppu-search --all=1 "$log"
+    refuses 2 'ppu-search: --every: an argument is missing' ppu-search "$log" --every
+    refuses 2 'ppu-search: --every 0: not a number' ppu-search --every 0 "$log"
+    refuses 2 'ppu-search: --every and --last' ppu-search --every 2 --last "$log"
+    refuses 2 'ppu-search: --board 12: refused 3: ' ppu-search --board 12 "$log"
+    refuses 2 'ppu-search: --output: the name is empty' ppu-search -o '' "$log"
+    refuses 3 'ppu-search: nowhere.log: No such file' ppu-search -o shown nowhere.log
+    refuses 3 'ppu-search: captured: a folder' ppu-search captured
+    refuses 3 'ppu-search: empty.log/rows: Not a directory' ppu-search -o empty.log/rows "$log"
+    refuses 3 'ppu-search: /dev/full: cannot be written: No space' ppu-search -o /dev/full "$log"
+    refuses 3 'ppu-search: standard output: cannot be written: No space' bash -c 'ppu-search --last "$1" >/dev/full' bash "$log"
+    refuses 3 'ppu-search: shown: cannot be written: File too large' bash -c 'ulimit -f 8 && exec ppu-search --all -o shown "$1"' bash long.log
+    refuses 4 'ppu-search: cut.log: record 2: refused 5: record cut short, 3 of 4 bytes' ppu-search -o shown cut.log
+    refuses 5 'ppu-search: empty.log: the log is empty' ppu-search -o shown empty.log
+    refuses 5 'ppu-search: short.log: no whole picture: the log ends before line 239' ppu-search -o shown short.log
+    refuses 5 'ppu-search: .*: no picture: it has 4 whole pictures, --every 5' ppu-search --every 5 -o shown "$log"
     rm empty.log short.log cut.log long.log
 }
 
@@ -717,15 +803,18 @@ batch_runs() {
 
 # A share takes each Nth log, all shares together all logs; a run over the same folder then has nothing left to do.
 batch_shares() {
-    local k
+    local k logs part
     text captured/*.log >list
+    logs=$(wc -l <list)
+    [ "$logs" -gt 5 ] || fail "only $logs captures to share"
     for k in 1 2 3; do
+        part=$(((logs + 3 - k) / 3))
         ppu-batch --every 20 --share "$k/3" --list list drawn >sum
-        grep -q '^logs 2: 2 done, 0 passed over, 0 failed' sum || fail "share $k of 3: $(cat sum)"
-        [ "$k" -gt 1 ] || [ "$(ls drawn)" = "$(sed -n '1p;4p' list | xargs -n 1 basename -s .log)" ] || fail "not logs 1 and 4 in share 1 of 3: $(ls drawn)"
+        grep -q "^logs $part: $part done, 0 passed over, 0 failed" sum || fail "share $k of 3: $(cat sum)"
+        [ "$k" -gt 1 ] || [ "$(ls drawn)" = "$(sed -n '1~3p' list | xargs -n 1 basename -s .log)" ] || fail "not each third log in share 1 of 3: $(ls drawn)"
     done
     ppu-batch --every 20 --list list drawn >sum
-    grep -q '^logs 6: 0 done, 6 passed over, 0 failed' sum || fail "all shares: $(cat sum)"
+    grep -q "^logs $logs: 0 done, $logs passed over, 0 failed" sum || fail "all shares: $(cat sum)"
     [ ! -e drawn/.part ] || fail "drawn/.part is left"
     passed 5
     rm -r drawn list sum
@@ -807,7 +896,7 @@ builds() {
     refuses 1 'tools/build: ppu-none: no such command' "$root/tools/build" ppu-none
     mkdir built
     export OUT=$PWD/built
-    TEXT_ARCHIVE=nowhere "$root/tools/build" ppu-log || fail "ppu-log without the text archive"
+    TEXT_ARCHIVE=nowhere "$root/tools/build" ppu-log ppu-search || fail "ppu-log and ppu-search without the text archive"
     refuses 1 'tools/build: no archive nowhere' env TEXT_ARCHIVE=nowhere "$root/tools/build" ppu-text
     refuses 1 'tools/build: no archive nowhere' env ARCHIVE=nowhere "$root/tools/build" ppu-text
     cp "$ARCHIVE" ppu.a
@@ -860,8 +949,8 @@ readme() {
     while IFS= read -r line; do
         grep -Fxq -- "${line#    }" printed || fail "tools/README.md: nothing printed $line"
         printed=$((printed + 1))
-    done < <(grep -E '^    (R|W|RUN|logs|pictures|refused|  ) ' "$root/tools/README.md")
-    { [ "$commands" -eq 16 ] && [ "$printed" -eq 14 ]; } || fail "tools/README.md: $commands commands and $printed lines they print"
+    done < <(grep -E '^    (R|W|RUN|logs|pictures|refused|  ) |searched: bit set on none$' "$root/tools/README.md")
+    { [ "$commands" -eq 17 ] && [ "$printed" -eq 15 ]; } || fail "tools/README.md: $commands commands and $printed lines they print"
     passed 2
     rm -r readme commands printed
 }
@@ -870,7 +959,7 @@ readme() {
 
 # The installed commands beside each other.
 mkdir -p "$bin" "$work"
-OUT=$bin tools/build ppu-log ppu-text
+OUT=$bin tools/build ppu-log ppu-text ppu-search
 no_libpng=0
 OUT=$bin tools/build ppu-picture || no_libpng=$?
 [ "$no_libpng" -eq 0 ] || [ "$no_libpng" -eq 77 ] || fail "ppu-picture is not built"
@@ -888,9 +977,14 @@ for part in text_screens text_options text_strict text_many text_table_errors te
 done
 interrupted "$root/examples/picture.log" ppu-text --table "$root/examples/picture.tbl" slow.log -o shown
 echo "  ppu-text: options, reports and statuses; tables, texts, logs and files that cannot be taken, by line and column"
+for part in search_pictures search_options search_refusals search_errors; do
+    $part
+done
+interrupted "$root/examples/picture.log" ppu-search slow.log -o shown
+echo "  ppu-search: options, reports and statuses; logs and files that cannot be taken"
 builds
-from_the_tree ppu-log ppu-text
-numbers ppu-text
+from_the_tree ppu-log ppu-text ppu-search
+numbers ppu-text ppu-search
 if [ "$no_libpng" -eq 0 ]; then
     mkdir palettes
     pictures palettes palettes

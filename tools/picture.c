@@ -22,8 +22,7 @@ static const char help[] =
     "Pictures count from 1. The first is blank in most logs, since a fresh unit must warm up for a frame.\n"
     "\n"
     "Which pictures\n"
-    "      --every N       only pictures N, 2N, 3N, ...\n"
-    "      --last          only the last whole picture\n"
+    HELP_WHICH
     "\n"
     "How they look\n"
     "      --scale N       each pixel is a square of N x N, 1 to 16 (default 1)\n"
@@ -44,8 +43,7 @@ static const char help[] =
     "                      A file of the same name is replaced. No file is ever half-written.\n"
     "\n"
     "The unit\n"
-    "      --board N       board byte: wiring 0 horizontal, 1 vertical, 2 first page, 3 second page, and 8 more if pattern\n"
-    "                      memory can be written (default 9)\n"
+    HELP_BOARD
     "\n"
     "What is reported\n"
     "      --strict        a refused record makes the exit status 1\n"

@@ -1,6 +1,8 @@
 #define _POSIX_C_SOURCE 200809L
+#include <string.h>
 #include <sys/stat.h>
 #include <time.h>
+#include <unistd.h>
 #include "screens.h"
 #include "tool.h"
 
@@ -91,6 +93,19 @@ void play_log(Playing *playing, Drawn *drawn)
     }
     close_input(log, playing->log);
     playing->next_line = next_line(&machine);
+}
+
+void play_into(Playing *playing, const char *output, Drawn *drawn, void (*write_last)(void))
+{
+    int on_terminal = strcmp(output, "-") == 0 && isatty(STDOUT_FILENO);
+    playing->bar = isatty(STDERR_FILENO) && (playing->last || !on_terminal);
+    play_log(playing, drawn);
+    clear_bar();
+    if (playing->last && playing->pictures)
+        write_last();
+    if (playing->written)
+        close_whole();
+    playing->bar = playing->bar && !on_terminal;
 }
 
 int take_picture(Playing *playing)

@@ -1,5 +1,5 @@
-/* The play of a whole log for a command that takes pictures or screens of it: the options, reports and statuses that ppu-picture and ppu-text
-   share. */
+/* The play of a whole log for a command that takes pictures or screens of it: the options, reports and statuses that ppu-picture, ppu-text and
+   ppu-search share. */
 #ifndef SCREENS_H
 #define SCREENS_H
 
@@ -7,7 +7,15 @@
 
 #define SHOWN_REPORTS 10 /* of one kind; the others are counted */
 
-/* The lines of --help that say what each number of a refusal means. */
+/* The lines of --help that say which pictures can be asked for, and on which unit. */
+#define HELP_WHICH \
+    "      --every N       only pictures N, 2N, 3N, ...\n" \
+    "      --last          only the last whole picture\n"
+#define HELP_BOARD \
+    "      --board N       board byte: wiring 0 horizontal, 1 vertical, 2 first page, 3 second page, and 8 more if pattern\n" \
+    "                      memory can be written (default 9)\n"
+
+/* Those that say what each number of a refusal means. */
 #define HELP_NUMBERS \
     "  1  the address is outside $2000-$3FFF\n" \
     "  2  a lent memory, or the unit's record, has the wrong length\n" \
@@ -38,6 +46,10 @@ void check_playing(const Playing *playing);
 
 /* Plays the log on a fresh unit and names what is refused; drawn is called as play.h says. A board byte that is none is an end with BAD_USAGE. */
 void play_log(Playing *playing, Drawn *drawn);
+
+/* The same for a command that writes text, all into one file, output: with --last write_last is called behind the play. The file is closed. No bar
+   stands among the text on a terminal; with --last it may stand there before the text. */
+void play_into(Playing *playing, const char *output, Drawn *drawn, void (*write_last)(void));
 
 /* Counts a picture that is whole; whether it is to be written now, which with --last none is. */
 int take_picture(Playing *playing);

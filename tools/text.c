@@ -31,8 +31,7 @@ static const char help[] =
     "                      standard error says so; --json keeps it.\n"
     "\n"
     "Which screens\n"
-    "      --every N       only pictures N, 2N, 3N, ...\n"
-    "      --last          only the last whole picture\n"
+    HELP_WHICH
     "      --quarter N     quarter 0 to 3: the nametable at $2000, $2400, $2800 or $2C00 (default: the one that control's low\n"
     "                      two bits name when line 239 was drawn)\n"
     "\n"
@@ -46,8 +45,7 @@ static const char help[] =
     "  -o, --output FILE   into this file, which is replaced as a whole or not at all (default: standard output)\n"
     "\n"
     "The unit\n"
-    "      --board N       board byte: wiring 0 horizontal, 1 vertical, 2 first page, 3 second page, and 8 more if pattern\n"
-    "                      memory can be written (default 9)\n"
+    HELP_BOARD
     "\n";
 
 static const char help_page[] =
@@ -206,21 +204,12 @@ static void line_drawn(void *context, const Machine *machine, unsigned line)
         write_screen();
 }
 
-/* No bar among the text on a terminal; with --last it may stand there before the text. */
 static int play_screens(void)
 {
-    int on_terminal = strcmp(at.options.output, "-") == 0 && isatty(STDOUT_FILENO);
     at.playing.log = at.options.input;
-    at.playing.bar = isatty(STDERR_FILENO) && (at.playing.last || !on_terminal);
-    play_log(&at.playing, line_drawn);
-    clear_bar();
-    if (at.playing.last && at.playing.pictures)
-        write_screen();
-    if (at.out)
-        close_whole();
+    play_into(&at.playing, at.options.output, line_drawn, write_screen);
     report_lack_sum(&at.without, "tiles without a character");
     report_lack_sum(&at.control, "control characters, written as ?,");
-    at.playing.bar = at.playing.bar && !on_terminal;
     int status = report_end(&at.playing);
     return status == DONE && at.playing.strict && at.without.sum ? NO_CHARACTER : status;
 }

@@ -6,9 +6,11 @@
 
    A call with a wrong length must answer 2 and change nothing; one with the right lengths must not answer 2; what is
    lent to be looked at is never changed. A log without a whole and good record at its front must answer 5; with one, the
-   lengths that count are those of the call that the record stands for. Rows of the right length with a character that is
-   0 or has no tile must answer 8. LINES says that the archive has ppu_line, ppu_run and ppu_play. With REACH_READ or
-   REACH_WRITE the test itself goes one byte beyond a slice, as a faulty library would, to show that this is noticed. */
+   lengths that count are those of the call that the record stands for. A search on a line above 239 must answer 5, whatever
+   the lengths; one that is done looks at 9 to 64 sprites, and no other call says that it looked at any. Rows of the right
+   length with a character that is 0 or has no tile must answer 8. LINES says that the archive has ppu_line, ppu_run and
+   ppu_play. With REACH_READ or REACH_WRITE the test itself goes one byte beyond a slice, as a faulty library would, to show
+   that this is noticed. */
 #define _DEFAULT_SOURCE
 #include <stdio.h>
 #include <stdlib.h>
@@ -18,15 +20,15 @@
 
 /* PAGE is sprite DMA's, SHEET a page of nametable RAM. */
 enum { UNIT, LEFT, RIGHT, NAMETABLES, OAM, PALETTE, LINE, COLOURS, PAGE, LOG, SHEET, TABLE, ROWS, MEMORIES };
-enum { FRESH, READ, WRITE, DMA, TEXT, TEXT_PAGE, RUN_LINE, RUN_MANY, PLAY, KINDS };
+enum { FRESH, READ, WRITE, DMA, SEARCH, TEXT, TEXT_PAGE, RUN_LINE, RUN_MANY, PLAY, KINDS };
 enum { LONGEST = 5000, ROOM = 8192, BARRIER = 4096, NUMBERS = 9 };
 
 static const size_t right_length[MEMORIES] = {16, 4096, 4096, 2048, 256, 32, 256, 512, 256, 4, 1024, 256, 960};
-static const char *const kind_name[KINDS] = {"fresh", "read", "write", "dma", "text", "page", "line", "run", "play"};
+static const char *const kind_name[KINDS] = {"fresh", "read", "write", "dma", "search", "text", "page", "line", "run", "play"};
 
 /* The memories that a kind of call is lent, and those of them that it may change, as sets of bits; for play see `played`. */
-static const unsigned lent[KINDS] = {0x01, 0x3F, 0x3F, 0x111, 0x1C00, 0x1C00, 0xFF, 0xFF, 0x2FF};
-static const unsigned mutable_ones[KINDS] = {0x01, 0x01, 0x3F, 0x11, 0x1000, 0x400, 0xC1, 0xC1, 0};
+static const unsigned lent[KINDS] = {0x01, 0x3F, 0x3F, 0x111, 0x11, 0x1C00, 0x1C00, 0xFF, 0xFF, 0x2FF};
+static const unsigned mutable_ones[KINDS] = {0x01, 0x01, 0x3F, 0x11, 0, 0x1000, 0x400, 0xC1, 0xC1, 0};
 
 static struct memory {
     uint8_t *room;    /* ROOM bytes between two barriers, or the block itself */
@@ -37,6 +39,7 @@ static struct memory {
 
 static int in_pages, failed;
 static uint64_t state;
+static uint16_t searched; /* the line of a search */
 
 static uint64_t next_random(void)
 {
@@ -112,6 +115,14 @@ static void make_well_formed(uint8_t *unit)
     unit[13] = (uint8_t)(line >> 8);
     unit[14] &= 1;
     unit[15] &= 0x0B;
+}
+
+/* In half of the rounds brings bytes in range of the line that is searched, so that eight are found and the bit is set. */
+static void make_sprites(struct memory *oam)
+{
+    if (below(2))
+        for (size_t i = 0; i < oam->length; i++)
+            oam->at[i] = below(4) ? oam->at[i] : (uint8_t)searched;
 }
 
 /* Makes a record of a log, as far as there is room: mostly a good one, its run of a few lines. */
@@ -195,6 +206,8 @@ static uint64_t call(int kind)
         return ppu_write(SLICE(UNIT), address, byte, SLICE(LEFT), SLICE(RIGHT), SLICE(NAMETABLES), SLICE(OAM), SLICE(PALETTE));
     case DMA:
         return ppu_dma(SLICE(UNIT), SLICE(OAM), SLICE(PAGE));
+    case SEARCH:
+        return ppu_search(SLICE(UNIT), searched, SLICE(OAM));
     case TEXT:
         return ppu_text(SLICE(SHEET), SLICE(TABLE), SLICE(ROWS));
     case TEXT_PAGE:
@@ -257,31 +270,41 @@ static void prepare(int kind)
     }
     if (length[UNIT] >= 16 && below(4))
         make_well_formed(memory[UNIT].at);
+    searched = (uint16_t)(below(4) ? below(240) : below(2) ? 238 + below(4) : next_random());
+    make_sprites(&memory[OAM]);
     make_record(memory[LOG].at, length[LOG]);
     make_rows(&memory[ROWS], &memory[TABLE]);
     for (int m = 0; m < MEMORIES; m++)
         keep(&memory[m]);
 }
 
+/* Whether a search, or a call that makes none, can say that it looked at so many sprites. */
+static int is_looked(unsigned looked, int search)
+{
+    return search ? looked >= 9 && looked <= 64 : looked == 0;
+}
+
 static int round_of(long round, int kind)
 {
     int wrong = 0;
     prepare(kind);
-    int as = kind == PLAY ? played(&memory[LOG]) : kind;
+    int as = kind == PLAY ? played(&memory[LOG]) : kind, unknown = as == PLAY || (as == SEARCH && searched > 239);
     for (int m = 0; m < MEMORIES; m++)
-        wrong |= as != PLAY && (lent[as] >> m & 1) && memory[m].length != right_length[m];
+        wrong |= !unknown && (lent[as] >> m & 1) && memory[m].length != right_length[m];
     int bad = as == TEXT_PAGE && !wrong && has_bad_character(&memory[ROWS], &memory[TABLE]);
     uint64_t answer = call(kind);
     reach();
     int number = (int)ppu_number(answer);
-    if ((number == 5) != (as == PLAY))
-        complain(round, kind, as == PLAY ? "no record, and not refused with 5" : "a record is refused with 5");
+    if ((number == 5) != unknown)
+        complain(round, kind, unknown ? "no record or no such line, and not refused with 5" : "a record or line is refused with 5");
     if ((number == 2) != wrong)
         complain(round, kind, wrong ? "a wrong length is not refused with 2" : "the right lengths are refused with 2");
     if ((number == 8) != bad)
         complain(round, kind, bad ? "a bad character is not refused with 8" : "good characters are refused with 8");
     if (number != 0 && answer != (uint64_t)number)
         complain(round, kind, "a refusal says more than its number");
+    if (!is_looked(ppu_looked(answer), number == 0 && kind == SEARCH))
+        complain(round, kind, "so many sprites cannot have been looked at");
     for (int m = 0; m < MEMORIES; m++) {
         if (!is_kept(&memory[m], number == 0 && (mutable_ones[as] >> m & 1)))
             complain(round, kind, "memory changed that must not");
@@ -313,9 +336,10 @@ int main(int argc, char **argv)
         count[kind][round_of(round, kind) % NUMBERS]++;
     }
     for (int k = 0; k < kinds; k++) {
-        printf("  %-5s %ld done, refused %ld with 1, %ld with 2, %ld with 3, %ld with 4, %ld with 5, %ld with 8\n",
+        printf("  %-6s %ld done, refused %ld with 1, %ld with 2, %ld with 3, %ld with 4, %ld with 5, %ld with 8\n",
                kind_name[k], count[k][0], count[k][1], count[k][2], count[k][3], count[k][4], count[k][5], count[k][8]);
-        failed |= count[k][0] == 0 || count[k][2] == 0 || (k == PLAY && count[k][5] == 0) || (k == TEXT_PAGE && count[k][8] == 0);
+        failed |= count[k][0] == 0 || count[k][2] == 0 || ((k == PLAY || k == SEARCH) && count[k][5] == 0) ||
+                  (k == TEXT_PAGE && count[k][8] == 0);
     }
     printf("tests/callers: %ld calls, seed %s, %s: %s\n", rounds, argv[2], argv[3], failed ? "FAILED" : "ok");
     return failed;

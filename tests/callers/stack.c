@@ -8,7 +8,7 @@ enum { SIZE = 256 * 1024, PAINT = 0xA5, MOST = 4096 };
 static Machine m;
 static uint8_t *stack;
 static uint8_t table[PPU_TABLE_LENGTH], rows[PPU_ROWS_LENGTH];
-static unsigned right_answers;
+static unsigned right_answers, cut_short;
 
 /* memory for a stack */
 static uint8_t *aligned(void)
@@ -35,6 +35,9 @@ static void *all_calls(void *unused)
     for (int i = 0; i < 262; i++)
         sum += one_line(&m);
     sum += run_lines(&m, 262);
+    cut_short = 0;
+    for (unsigned line = 0; line < 240; line++)
+        cut_short += ppu_looked(search_on(&m, line)) < 64;
     static const uint8_t log[] = { 1, 0x20, 0x00, 0x80, 2, 0x02, 0x0C, 0, 0, 0x20, 0x02, 0, 3, 0, 0, 0 };
     for (size_t front = 0; front <= sizeof log; front += PPU_LOG_RECORD_LENGTH)
         sum += play_log(&m, log + front, sizeof log - front);
@@ -75,16 +78,17 @@ int main(void)
     m = machine();
     scatter(&m, 7);
     for (int i = 0; i < 256; i += 4)
-        m.page[i] = (uint8_t)(i / 2);
+        m.page[i] = (uint8_t)(i / 4); /* eight sprites on each line from 8 to 64 */
     for (int i = 0; i < 256; i++)
         table[i] = (uint8_t)(i ? i : 32);
     text_calls(NULL);
     all_calls(NULL); /* the dynamic linker resolves what the calls use now, and not on the painted stack */
     size_t alone = used_by(nothing), with_calls = used_by(all_calls), with_text = used_by(text_calls);
     EXPECT(m.unit[PPU_AT_MASK], 0x1E);
+    EXPECT(cut_short > 0 && cut_short < 56, 1); /* on lines 8 to 63 eight are found: some of these searches set the bit, some do not */
     EXPECT(with_calls > alone, 1);
     EXPECT(with_calls - alone < MOST, 1);
-    printf("  every call of the unit, lines with eight sprites too: %zu bytes of stack, %d allowed\n", with_calls - alone, MOST);
+    printf("  every call of the unit, lines and searches with eight sprites too: %zu bytes of stack, %d allowed\n", with_calls - alone, MOST);
     EXPECT(right_answers, 3);
     EXPECT(with_text > alone, 1);
     EXPECT(with_text - alone < MOST, 1);

@@ -2,9 +2,9 @@
 
    The string: 16 bytes of the unit's record (as they are if the next byte is odd, else made well formed), a byte that
    chooses the contents of memory, then steps. A step is a byte, whose low three bits say what, and its arguments:
-   0 read, 1 write, 2 sprite DMA, or a call of the text layer, 3 line, 4 run, or the record of a log, also with one length
-   near the right one, 5 a byte of memory, 6 a sprite near the next line, 7 a length for the next call, or fresh. LINES says
-   that the archive has ppu_line, ppu_run and ppu_play. */
+   0 read, 1 write, 2 sprite DMA, the search for overflow, or a call of the text layer, 3 line, 4 run, or the record of a
+   log, also with one length near the right one, 5 a byte of memory, 6 a sprite near the next line, or a row of them, 7 a
+   length for the next call, or fresh. LINES says that the archive has ppu_line, ppu_run and ppu_play. */
 #include <stdio.h>
 #include <stdlib.h>
 #include <string.h>
@@ -85,13 +85,27 @@ static void compare(const char *what, uint64_t one, uint64_t other)
     memcpy(length, right_length, sizeof length);
 }
 
-static void put_sprite(void)
+static unsigned next_line(void)
 {
     const uint8_t *unit = library.memory[UNIT] + SLACK;
-    unsigned line = unit[12] | unit[13] << 8, slot = take() % 64;
-    set_byte(OAM, 4 * slot, (uint8_t)(line - take() % 20));
+    return unit[12] | unit[13] << 8;
+}
+
+static void put_sprite(void)
+{
+    unsigned slot = take() % 64;
+    set_byte(OAM, 4 * slot, (uint8_t)(next_line() - take() % 20));
     for (int i = 1; i < 4; i++)
         set_byte(OAM, 4 * slot + i, (uint8_t)take());
+}
+
+/* Up to 16 sprites in a row, all near the next line and otherwise alike. */
+static void put_row(unsigned number)
+{
+    unsigned first = take(), y = next_line() - take() % 20, other = take();
+    for (unsigned slot = first; slot < first + number; slot++)
+        for (int i = 0; i < 4; i++)
+            set_byte(OAM, 4 * (slot % 64) + i, (uint8_t)(i == 0 ? y : other));
 }
 
 #ifdef LINES
@@ -194,7 +208,19 @@ static void text_layer(unsigned what)
             second_text(SLICE(second, SCREEN), SLICE(second, TABLE), SLICE(second, ROWS)));
 }
 
-/* Steps 0 to 2: a read, a write, sprite DMA or a call of the text layer. */
+/* The search on the next line, on a line of one byte or on any, also with one length near the right one. */
+static void search(unsigned what)
+{
+    unsigned line = what & 32 ? take_two() : what & 64 ? take() : next_line();
+    if (what & 128) {
+        int memory = take() & 1 ? UNIT : OAM;
+        length[memory] = right_length[memory] - 1 + take() % 3;
+    }
+    compare("search", ppu_search(SLICE(library, UNIT), line, SLICE(library, OAM)),
+            second_search(SLICE(second, UNIT), line, SLICE(second, OAM)));
+}
+
+/* Steps 0 to 2: a read, a write, sprite DMA, a search or a call of the text layer. */
 static void access_memory(unsigned what)
 {
     unsigned address, byte;
@@ -211,12 +237,13 @@ static void access_memory(unsigned what)
                 second_write(SLICE(second, UNIT), address, byte, ACCESS(second)));
         break;
     case 2:
-        if (what & 8) {
+        if (what & 8)
             text_layer(what);
-            break;
-        }
-        compare("dma", ppu_dma(SLICE(library, UNIT), SLICE(library, OAM), SLICE(library, PAGE)),
-                second_dma(SLICE(second, UNIT), SLICE(second, OAM), SLICE(second, PAGE)));
+        else if (what & 16)
+            search(what);
+        else
+            compare("dma", ppu_dma(SLICE(library, UNIT), SLICE(library, OAM), SLICE(library, PAGE)),
+                    second_dma(SLICE(second, UNIT), SLICE(second, OAM), SLICE(second, PAGE)));
         break;
     }
 }
@@ -248,7 +275,7 @@ static void run_lines(unsigned what)
 }
 #endif
 
-/* Steps 5 to 7: a byte of memory, a sprite, a length or a fresh unit. */
+/* Steps 5 to 7: a byte of memory, sprites, a length or a fresh unit. */
 static void change(unsigned what)
 {
     unsigned address, byte, memory;
@@ -259,7 +286,10 @@ static void change(unsigned what)
         set_byte(memory, address % right_length[memory], (uint8_t)take());
         break;
     case 6:
-        put_sprite();
+        if (what & 8)
+            put_row(1 + (what >> 4));
+        else
+            put_sprite();
         break;
     case 7:
         memory = (what >> 4) % SCREEN;

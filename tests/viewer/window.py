@@ -9,6 +9,7 @@
     window.py picture X11 PALETTE DRAWN [MASK]    the picture is that of examples/picture.py in these colours, after DRAWN lines of it
     window.py capture X11 PALETTE NAME K          the picture is picture K of this capture, as the emulator drew it, in these colours
     window.py panel X11                           prints the panel's text
+    window.py search LOG                          prints what the panel must say of the next line's search at the log's end: nothing if it is not drawn
 
 X11 is FILE,X,Y,WIDTH,HEIGHT: the X server's frame buffer (an XWD file, which Xvfb -fbdir keeps) and the window's place in it. The screen is
 what the window shows, at its own size: each of its pixels must stand there as a square, in the middle of the window.
@@ -25,7 +26,8 @@ from pathlib import Path
 ROOT = Path(__file__).resolve().parents[2]
 sys.dont_write_bytecode = True
 sys.path.insert(0, str(ROOT / "tests"))
-from pictures import captures, extended, finished, palettes, shown
+from pictures import captures, extended, finished, palettes, run, shown, write
+from searches import Sprites
 WIDTH, HEIGHT, MARGIN, PANEL_LEFT, PITCH, COLUMNS = 496, 256, 8, 280, 9, 26     # the layout of examples/screen.h
 BACKDROP = bytes.fromhex("24272E")
 
@@ -55,9 +57,16 @@ def scattered(chance):
     return log
 
 
+def crowded(chance, control):
+    """64 sprites on twenty rows: the log up to the line before the first that sets status bit 5, and up to that line; by the number of lines."""
+    log = run(262) + write(0, control) + write(3, 0) + b"".join(write(4, 60 + chance.randrange(20), 255, 255, 255) for _ in range(64)) + write(1, 0x1E)
+    first = Sprites(9, log + run(240)).objects()[-1]["first_set"]
+    return {lines: log + run(lines) for lines in (first - 1, first)}
+
+
 def logs(folder):
     """The example's log, checked; the same with other masks; the same with 1200 pictures more; the captures' logs; for the panel the
-    document's log cut short and with more records, bad ones too, and random accesses and runs."""
+    document's log cut short and with more records, bad ones too, random accesses and runs, and crowds of sprites, of both heights."""
     log = bytes(example()["log"])
     if log != (ROOT / "examples/picture.log").read_bytes():
         fail("examples/picture.log is not what examples/picture.py writes")
@@ -77,6 +86,8 @@ def logs(folder):
         Path(folder, f"panel-{name}.log").write_bytes(paper + bytes.fromhex(records))
     for seed in range(2):
         Path(folder, f"panel-random-{seed}.log").write_bytes(scattered(random.Random(seed)))
+        for lines, log in crowded(random.Random(seed), 0x20 * seed).items():
+            Path(folder, f"panel-crowd-{seed}-{lines}.log").write_bytes(log)
     Path(folder, "palette").write_bytes(b"".join(bytes((4 * i, 255 - 4 * i, 37 * i % 256)) for i in range(64)))
     palettes(folder)
     Path(folder, "raw").mkdir()
@@ -221,6 +232,12 @@ def panel(place):
         print(text.rstrip())
 
 
+def search(log):
+    unit = Sprites(9, Path(log).read_bytes())
+    if unit.line < 240 and unit.shows():
+        print("SEARCH", unit.row()["looked"])
+
+
 def main(job, *words):
     if job == "logs":
         logs(*words)
@@ -238,6 +255,8 @@ def main(job, *words):
         capture(*words[:3], int(words[3]))
     elif job == "panel":
         panel(*words)
+    elif job == "search":
+        search(*words)
     else:
         fail(f"no job {job}")
 

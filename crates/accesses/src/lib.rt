@@ -1,5 +1,6 @@
-// Public calls on a unit by value: fresh, load, save make and keep one; read, write, dma are its accesses; search looks for overflow. None has a `requires`: a call
-// refuses what it cannot take, in the order 5, 2, 3, 1, 4, and a refused call leaves the unit, the record and every lent memory as they were.
+// Public calls on a unit by value: fresh, load, save make and keep one; read, write, dma are its accesses; search reports the search for
+// overflow. None has a `requires`: a call refuses what it cannot take, in the order 5, 2, 3, 1, 4, and a refused call leaves the unit, the
+// record and every lent memory as they were.
 ghost use mathlib.Core.Path.{_≡_};
 ghost use Rattle.model.specs.Unit.{state, accessMemory, dmaMemory};
 ghost use Rattle.model.specs.Calls.{

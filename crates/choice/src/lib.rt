@@ -250,7 +250,7 @@ fn in_sixteen(d: &[u8], at: usize, h: u8) -> u8
     n
 }
 
-// The place of the eighth sprite whose distance is below h, where there are eight and fewer than eight of them are before place `from`: so many.
+// The place of the eighth sprite whose distance is below h, where there are eight; `found` of them, fewer than eight, stand before place `from`.
 fn eighth_from(d: &[u8], h: u8, found: u8, from: usize) -> usize
     requires { ⌜ (length (now d) ≡ 64) × (8 ≤ countOf (near (now d) 0 h) 64) × (from ≤ 48) × (found ≤ 7) × (found ≡ countOf (near (now d) 0 h) from) ⌝ }
     ensures { λ r. ⌜ (r < 64) × (countOf (near (now (d .entry)) 0 h) r ≡ 7) × (near (now (d .entry)) 0 h r ≡ true) ⌝ }
@@ -294,7 +294,7 @@ fn tried_one(n: u8, h: u8, y: u8) -> u8
     near_one(distance(n, y), 0, h)
 }
 
-// 1 if, after byte 0 of a sprite, the byte at place j behind it is one of those that are tried: byte 1 of the next sprite, and so on. Else 0.
+// 1 if the byte j places behind a sprite's byte 0 is tried after it: byte 1 of the next sprite, byte 2 of the one behind, and so on. Else 0.
 fn on_diagonal(j: usize) -> u8
     ensures { λ r. ⌜ (r ≡ cond (onDiagonal j) 1 0) × (r ≤ 1) ⌝ }
 {
@@ -303,7 +303,8 @@ fn on_diagonal(j: usize) -> u8
     if sprite == byte { 1 } else { 0 }
 }
 
-// 1 if one of those bytes of `size` sprites, from byte 0 of sprite i on, is in range of line n, else 0. All bytes are looked at, in vectors.
+// 1 if one of those bytes is in range of line n, of `size` sprites from byte 0 of sprite i on, else 0. All bytes are tried and those off the
+// diagonal masked out, which the compiler makes vectors of.
 fn tried_some(n: u8, h: u8, oam: &[u8], i: usize, size: usize) -> u8
     requires { ⌜ (h ≤ 16) × (length (now oam) ≡ 256) × (i + size ≤ 64) ⌝ }
     ensures { λ r. ⌜ r ≡ cond (anyOf (hits h n (now (oam .entry)) i) (4 * size)) 1 0 ⌝ }
@@ -367,7 +368,7 @@ fn diagonal(control: u8, n: u8, oam: &[u8], from: usize) -> Found
     }
 }
 
-// The search for line n, out of its distances: with fewer than eight in range it looks at all and sets nothing.
+// The search on line n, out of its distances: with fewer than eight in range it looks at all and sets nothing.
 fn searched(control: u8, n: u8, oam: &[u8], d: &[u8]) -> Found
     requires { ⌜ (length (now oam) ≡ 256) × (length (now d) ≡ 64) × (now d ≡ tab (distanceAt n (now oam)) 64) ⌝ }
     ensures { λ r. ⌜ (r .looked ≡ lookedAt control (now (oam .entry)) n) × (r .over ≡ overflows control (now (oam .entry)) n) ⌝ }
@@ -395,7 +396,7 @@ pub fn search(control: u8, n: u8, oam: &[u8]) -> Found
     searched(control, n, oam, &d)
 }
 
-// Whether the search for line n sets the overflow bit, out of its distances. With fewer than eight of them from 0 to h it does not.
+// Whether the search on line n sets the overflow bit, out of its distances. With fewer than eight of them from 0 to h it does not.
 fn is_over(control: u8, n: u8, oam: &[u8], d: &[u8], close: u8) -> bool
     requires { ⌜ (length (now oam) ≡ 256) × (length (now d) ≡ 64) × (now d ≡ tab (distanceAt n (now oam)) 64) × (close ≡ countOf (near (now d) 0 (heightOf control + 1)) 64) ⌝ }
     ensures { λ r. ⌜ r ≡ overflows control (now (oam .entry)) n ⌝ }
@@ -407,8 +408,8 @@ fn is_over(control: u8, n: u8, oam: &[u8], d: &[u8], close: u8) -> bool
     found.over
 }
 
-// The sprites that line n shows, in OAM order, at the front of `list`, and whether the search for line n sets the overflow bit. Where no distance is from 0
-// to h there is neither.
+// The sprites that line n shows, in OAM order, at the front of `list`, and whether the search on line n sets the overflow bit. Where no distance
+// is from 0 to h there is neither.
 pub fn choose(control: u8, n: u8, oam: &[u8], list: &mut [u8]) -> Choice
     requires { ⌜ (length (now oam) ≡ 256) × (length (now list) ≡ 65) ⌝ }
     ensures { λ r. ⌜ (r .over ≡ overflows control (now (oam .entry)) n) × (r .count ≤ 8)

@@ -168,6 +168,18 @@ pub unsafe extern "C" fn run(
     .into()
 }
 
+#[cfg_attr(as_library, export_name = "ppu_search")]
+#[cfg_attr(not(as_library), export_name = "second_search")]
+pub unsafe extern "C" fn search(
+    unit: Shared,
+    unit_size: Size,
+    line: u16,
+    oam: Shared,
+    oam_size: Size,
+) -> u64 {
+    calls::search(from_raw_parts(unit, unit_size), line, from_raw_parts(oam, oam_size)).into()
+}
+
 #[cfg_attr(as_library, export_name = "ppu_play")]
 #[cfg_attr(not(as_library), export_name = "second_play")]
 pub unsafe extern "C" fn play(

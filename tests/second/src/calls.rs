@@ -11,7 +11,7 @@ pub enum Refusal {
     Length = 2,
     Malformed = 3,
     Drawing = 4,
-    Log = 5,
+    Request = 5,
 }
 
 #[derive(Clone, Copy, Debug, Default, PartialEq, Eq)]
@@ -20,6 +20,8 @@ pub struct Answer {
     pub byte: u8,
     pub lines: u16,
     pub nmi: bool,
+    /// Sprites that a search looked at.
+    pub looked: u8,
 }
 
 /// The answer as the C interface packs it.
@@ -28,6 +30,7 @@ impl From<Answer> for u64 {
         u64::from(answer.number)
             | u64::from(answer.byte) << 8
             | u64::from(answer.nmi) << 16
+            | u64::from(answer.looked) << 24
             | u64::from(answer.lines) << 32
     }
 }
@@ -66,7 +69,7 @@ fn call(record: &mut [u8], work: impl FnOnce(&[u8; RECORD]) -> Outcome) -> Answe
     match fixed(record).and_then(work) {
         Ok((unit, Done { byte, lines })) => {
             record.copy_from_slice(&unit.record());
-            Answer { number: 0, byte, lines, nmi: unit.nmi() }
+            Answer { byte, lines, nmi: unit.nmi(), ..Answer::default() }
         }
         Err(refusal) => refused(refusal),
     }
@@ -203,6 +206,21 @@ pub fn run(
 ) -> Answer {
     let memory = [left, right, nametables, oam, palette];
     lines_run(record, memory, [line, colours], |unit, scene, buffers| unit.run(most, scene, buffers))
+}
+
+/// The search for overflow on a line; nothing changes.
+pub fn search(record: &[u8], line: u16, oam: &[u8]) -> Answer {
+    searched(record, line, oam).unwrap_or_else(refused)
+}
+
+fn searched(record: &[u8], line: u16, oam: &[u8]) -> Result<Answer, Refusal> {
+    if line > 239 {
+        return Err(Refusal::Request);
+    }
+    let (saved, oam) = (fixed(record)?, fixed(oam)?);
+    let unit = loaded(saved)?;
+    let looked = unit.search(oam, line).looked;
+    Ok(Answer { looked, nmi: unit.nmi(), ..Answer::default() })
 }
 
 /// Plays the record at the front of a log: the access that it asks for, or its lines without early stop.

@@ -45,6 +45,7 @@ extern "C" {
         page: *const u8,
         page_size: usize,
     ) -> u64;
+    fn ppu_search(unit: *const u8, unit_size: usize, line: u16, oam: *const u8, oam_size: usize) -> u64;
     fn ppu_play(
         unit: *mut u8,
         unit_size: usize,
@@ -194,6 +195,10 @@ pub fn write(
 
 pub fn dma(unit: &mut [u8], oam: &mut [u8], page: &[u8]) -> u64 {
     unsafe { ppu_dma(unit.as_mut_ptr(), unit.len(), oam.as_mut_ptr(), oam.len(), page.as_ptr(), page.len()) }
+}
+
+pub fn search(unit: &[u8], line: u16, oam: &[u8]) -> u64 {
+    unsafe { ppu_search(unit.as_ptr(), unit.len(), line, oam.as_ptr(), oam.len()) }
 }
 
 pub fn play(

@@ -18,13 +18,13 @@ pub enum Request {
 impl Request {
     /// The request of the record at the front of a log; what stands behind it does not matter.
     pub fn at_front(log: &[u8]) -> Result<Request, Refusal> {
-        let &[kind, high, low, last, ..] = log else { return Err(Refusal::Log) };
+        let &[kind, high, low, last, ..] = log else { return Err(Refusal::Request) };
         let number = u16::from_be_bytes([high, low]);
         match (kind, last) {
             (0, 0) => Ok(Request::Read(number)),
             (1, byte) => Ok(Request::Write(number, byte)),
             (2, 0) => Ok(Request::Run(number)),
-            _ => Err(Refusal::Log),
+            _ => Err(Refusal::Request),
         }
     }
 }
@@ -95,6 +95,10 @@ impl Machine {
             &mut self.line,
             &mut self.colours,
         )
+    }
+
+    pub fn search(&self, line: u16) -> Answer {
+        calls::search(&self.unit, line, &self.oam)
     }
 
     pub fn play(&mut self, log: &[u8]) -> Answer {

@@ -72,7 +72,7 @@ pub fn column_right(v: u16) -> u16 {
 }
 
 impl Unit {
-    fn sprite_height(&self) -> u16 {
+    pub(crate) fn sprite_height(&self) -> u16 {
         if self.control & 0x20 != 0 {
             16
         } else {
@@ -147,13 +147,6 @@ impl Unit {
         (first.x()..first.x() + 8).filter(|&p| p < 255).any(meets)
     }
 
-    /// More than eight sprites wait for the line after this one.
-    fn overflows(&self, oam: &[u8; OAM]) -> bool {
-        let height = self.sprite_height();
-        let waiting = oam.chunks(4).filter(|&s| Sprite(s).row(height, self.next_line).is_some());
-        waiting.count() > 8
-    }
-
     fn picture_line(&mut self, scene: &Lent, buffers: &mut Buffers) {
         if !self.is_rendering() {
             (0..LINE).for_each(|column| self.show(scene, buffers, column, 0));
@@ -166,7 +159,7 @@ impl Unit {
         if self.hits(scene) {
             self.status |= 0x40;
         }
-        if self.overflows(scene.oam) {
+        if self.search(scene.oam, self.next_line).sets {
             self.status |= 0x20;
         }
         self.v = row_down(self.v) & !0x041F | self.t & 0x041F;

@@ -3,15 +3,16 @@
 //!     replay FOLDER NAME..
 //!
 //! FOLDER has NAME.json, NAME.chr, NAME.l01, NAME.num and NAME.pix, decompressed. Both sides must agree
-//! in everything, and with the capture in each answer (but for status bit 5), each pixel number and each
-//! finished colour.
+//! in everything, and with the capture in each answer, each pixel number and each finished colour; in one
+//! capture status bit 5 may come up within the line that sets it.
 //! The library plays the log two more times: with `ppu_run` for lines, and as a log by `ppu_play`.
+//! Before each line both sides search it for overflow, and the line must set bit 5 if the search does.
 //! After each picture the text of its four quarters must be what a table of the tiles themselves gives.
 
 use second::log::Machine;
 use second::memory::palette_cell;
 use second::text::{self, PAGE, TEXT};
-use second::unit::Board;
+use second::unit::{Board, Unit, LAST_LINE};
 use std::fs;
 use std::process::ExitCode;
 
@@ -20,6 +21,14 @@ const HEIGHT: usize = 240;
 
 /// The capture in which greyscale, emphasis and backdrop override must all be seen.
 const ALL_COLOURS: &str = "ports_w1";
+
+/// The capture whose program polls port 2 inside drawn lines: there the emulator sets status bit 5 within the
+/// line, document 01 between lines. Until the next line the bit is left out.
+const POLLS_IN_LINES: &str = "efp";
+
+/// The capture in which bit 5 must be seen set and clear, each also where a count of sprites says otherwise.
+const CROWDS: &str = "ovf";
+const OVERFLOW: u8 = 0x20;
 
 /// The byte that stands for a tile without a character.
 const SPACE: u8 = 32;
@@ -125,6 +134,10 @@ impl Library {
         }
     }
 
+    fn search(&self, line: u16) -> u64 {
+        library::search(&self.0.unit, line, &self.0.oam)
+    }
+
     fn play(&mut self, log: &[u8]) -> u64 {
         let Machine { unit, left, right, nametables, oam, palette, line, colours } = &mut self.0;
         library::play(unit, log, left, right, nametables, oam, palette, line, colours)
@@ -144,6 +157,7 @@ impl Library {
 }
 
 struct Capture {
+    polls_in_lines: bool,
     log: Vec<u8>,
     pictures: Vec<u8>,
     /// The pictures again, in finished colours of two bytes.
@@ -171,6 +185,7 @@ impl Capture {
         };
         let json = String::from_utf8(load("json")).expect("the .json file is text");
         Capture {
+            polls_in_lines: name == POLLS_IN_LINES,
             log: load("l01"),
             pictures: load("num"),
             colours: load("pix"),
@@ -204,11 +219,52 @@ struct Tally {
     records: usize,
     lines: usize,
     reads: usize,
-    bit_5: usize,
+    overflow: Overflow,
     pictures: usize,
     /// Pages of text compared.
     texts: usize,
     colours: Colours,
+}
+
+/// Status bit 5: reads of port 2 and what they show of it, and searches.
+#[derive(Default)]
+struct Overflow {
+    /// Reads compared without bit 5, and those of them that are apart in it.
+    without: usize,
+    apart: usize,
+    /// Reads compared in all bits; those that gave bit 5 set, and of them those before which no line had nine
+    /// sprites in range.
+    whole: usize,
+    set: usize,
+    set_below_nine: usize,
+    /// Reads that gave it clear after a line that had nine or more.
+    clear_from_nine: usize,
+    searches: usize,
+    /// Searches that ended before sprite 63, and lines that raised the bit.
+    ended: usize,
+    raised: usize,
+}
+
+impl Overflow {
+    /// Counts a read compared in all bits; `nine` says whether a line since line 261 had nine sprites in range.
+    fn count_whole(&mut self, status: u8, nine: bool) {
+        let is_set = status & OVERFLOW != 0;
+        self.whole += 1;
+        self.set += usize::from(is_set);
+        self.set_below_nine += usize::from(is_set && !nine);
+        self.clear_from_nine += usize::from(!is_set && nine);
+    }
+
+    fn count_without(&mut self, apart: u8) {
+        self.without += 1;
+        self.apart += usize::from(apart != 0);
+    }
+
+    /// The search is seen to set the bit and to leave it clear, also where a count would do otherwise.
+    fn is_of_each_kind(&self) -> bool {
+        let clear = self.whole - self.set;
+        [self.set, clear, self.set_below_nine, self.clear_from_nine].iter().all(|&number| number > 0)
+    }
 }
 
 /// Finished colours compared with a capture, and those that a rule made other than the palette's own.
@@ -252,6 +308,9 @@ struct Replay<'a> {
     log: Vec<u8>,
     /// Pictures begun so far, this one included.
     begun: usize,
+    /// Whether a drawn line since line 261 had nine sprites in range, and whether the last one raised bit 5.
+    nine: bool,
+    raised: bool,
     tally: Tally,
 }
 
@@ -265,12 +324,17 @@ impl Replay<'_> {
         }
         let byte = (library >> 8) as u8;
         let apart = byte ^ captured;
-        let free = if address % 8 == 2 { 0x20 } else { 0 };
+        let is_early = address % 8 == 2 && self.capture.polls_in_lines && self.raised;
+        let free = if is_early { OVERFLOW } else { 0 };
         if library & 255 != 0 || apart & !free != 0 {
             return Err(format!("read {address:04X}: answer {library:X}, the capture has {captured:02X}"));
         }
         self.tally.reads += 1;
-        self.tally.bit_5 += usize::from(apart != 0);
+        match address % 8 {
+            2 if is_early => self.tally.overflow.count_without(apart),
+            2 => self.tally.overflow.count_whole(byte, self.nine),
+            _ => {}
+        }
         Ok(library)
     }
 
@@ -295,6 +359,7 @@ impl Replay<'_> {
     fn line(&mut self) -> Result<(), String> {
         let (line, unit) = (usize::from(self.second.next_line()), self.second.unit);
         self.begun += usize::from(line == 0);
+        let looked = self.search(line as u16)?;
         let (library, second) = (self.library.line(), u64::from(self.second.line()));
         if library != second || self.library.0 != self.second {
             return Err(format!(
@@ -302,10 +367,41 @@ impl Replay<'_> {
             ));
         }
         self.tally.lines += 1;
+        self.compare_overflow(line as u16, &unit, looked)?;
         if line < HEIGHT && self.begun > 1 {
             self.compare_colours(line, &unit)?;
             self.compare_pixels(line)?;
         }
+        Ok(())
+    }
+
+    /// The search on a line, on both sides; how many sprites it looked at, 0 where it is refused.
+    fn search(&mut self, line: u16) -> Result<u64, String> {
+        let (library, second) = (self.library.search(line), u64::from(self.second.search(line)));
+        let due = if usize::from(line) < HEIGHT { 0 } else { 5 };
+        if library != second || library & 255 != due {
+            return Err(format!("search on line {line}: library {library:X}, second {second:X}"));
+        }
+        let looked = library >> 24 & 255;
+        self.tally.overflow.searches += usize::from(looked > 0);
+        self.tally.overflow.ended += usize::from((1..64).contains(&looked));
+        Ok(looked)
+    }
+
+    /// Status bit 5 after a line, by the search on it; `before` is the record before it.
+    fn compare_overflow(&mut self, line: u16, before: &[u8; 16], looked: u64) -> Result<(), String> {
+        let (unit, oam) = (Unit::from_record(before).expect("the record is well formed"), &self.second.oam);
+        let is_drawn = unit.is_rendering() && usize::from(line) < HEIGHT;
+        let sets = is_drawn && unit.search(oam, line).sets;
+        let is_due = sets || before[2] & OVERFLOW != 0 && line != LAST_LINE;
+        let is_set = self.library.0.unit[2] & OVERFLOW != 0;
+        if is_set != is_due || is_drawn && looked < 64 && !sets {
+            return Err(format!("line {line}: bit 5 is {is_set}, and {looked} sprites were looked at"));
+        }
+        let in_range = oam.chunks(4).filter(|sprite| unit.is_in_range(sprite[0], line)).count();
+        self.nine = line != LAST_LINE && (self.nine || is_drawn && in_range > 8);
+        self.raised = is_set && before[2] & OVERFLOW == 0;
+        self.tally.overflow.raised += usize::from(self.raised);
         Ok(())
     }
 
@@ -387,6 +483,8 @@ fn replay(capture: &Capture) -> Result<Tally, String> {
         by_play: Library(capture.start()),
         log: capture.log_without_answers(),
         begun: 0,
+        nine: false,
+        raised: false,
         tally: Tally::default(),
     };
     for number in 0..capture.log.len().div_ceil(4) {
@@ -395,37 +493,60 @@ fn replay(capture: &Capture) -> Result<Tally, String> {
     Ok(replay.tally)
 }
 
-/// Replays a capture and says how it went; whether all was equal.
-fn verdict(folder: &str, name: &str) -> bool {
+fn print(name: &str, tally: &Tally, due: usize) {
+    let Tally { colours, overflow, .. } = tally;
+    println!(
+        "  {name}: {} records, {} lines, {} answers, {} of {due} pictures, {} pages of text; {} finished colours: \
+         {} changed by greyscale, {} by emphasis, {} by backdrop override",
+        tally.records,
+        tally.lines,
+        tally.reads,
+        tally.pictures,
+        tally.texts,
+        colours.all,
+        colours.grey,
+        colours.emphasis,
+        colours.backdrop_override
+    );
+    println!(
+        "    port 2: {} reads in all bits: bit 5 set in {}, in {} of them without a line of nine sprites, clear in \
+         {} after such a line; {} reads without bit 5, {} apart in it; {} searches, {} ended before sprite 63; \
+         {} lines raised the bit",
+        overflow.whole,
+        overflow.set,
+        overflow.set_below_nine,
+        overflow.clear_from_nine,
+        overflow.without,
+        overflow.apart,
+        overflow.searches,
+        overflow.ended,
+        overflow.raised
+    );
+}
+
+/// All that is due of a capture was compared, and seen where it must be.
+fn is_whole(name: &str, tally: &Tally, due: usize) -> bool {
+    tally.reads > 0
+        && tally.pictures == due
+        && tally.texts == 4 * due
+        && tally.colours.all == due * WIDTH * HEIGHT
+        && tally.overflow.searches >= due * HEIGHT
+        && (name != CROWDS || tally.overflow.is_of_each_kind())
+        && (name != ALL_COLOURS || tally.colours.are_of_each_kind())
+}
+
+/// Replays a capture and says how it went; what was compared, if all was equal.
+fn verdict(folder: &str, name: &str) -> Option<Tally> {
     let capture = Capture::load(folder, name);
     let due = capture.pictures.len() / (WIDTH * HEIGHT) - 1;
     match replay(&capture) {
         Ok(tally) => {
-            let colours = &tally.colours;
-            println!(
-                "  {name}: {} records, {} lines, {} answers ({} apart in status bit 5), {} of {due} pictures, \
-                 {} pages of text; {} finished colours: {} changed by greyscale, {} by emphasis, {} by backdrop \
-                 override",
-                tally.records,
-                tally.lines,
-                tally.reads,
-                tally.bit_5,
-                tally.pictures,
-                tally.texts,
-                colours.all,
-                colours.grey,
-                colours.emphasis,
-                colours.backdrop_override
-            );
-            tally.reads > 0
-                && tally.pictures == due
-                && tally.texts == 4 * due
-                && colours.all == due * WIDTH * HEIGHT
-                && (name != ALL_COLOURS || colours.are_of_each_kind())
+            print(name, &tally, due);
+            Some(tally).filter(|tally| is_whole(name, tally, due))
         }
         Err(why) => {
             println!("  {name}: DIFFERENCE: {why}");
-            false
+            None
         }
     }
 }
@@ -438,14 +559,19 @@ fn main() -> ExitCode {
     let mut words = std::env::args().skip(1);
     let folder = &words.next().expect("the folder of the captures");
     let names: Vec<String> = words.collect();
-    let equal = std::thread::scope(|scope| {
+    let tallies: Vec<Tally> = std::thread::scope(|scope| {
         let replays: Vec<_> = names.iter().map(|name| scope.spawn(move || verdict(folder, name))).collect();
-        replays.into_iter().map(|r| r.join().unwrap_or(false)).filter(|&equal| equal).count()
+        replays.into_iter().filter_map(|r| r.join().unwrap_or(None)).collect()
     });
-    let passed = equal == names.len() && equal > 0;
+    let sum = |number: fn(&Overflow) -> usize| tallies.iter().map(|t| number(&t.overflow)).sum::<usize>();
+    let passed = tallies.len() == names.len() && !names.is_empty();
     println!(
-        "replay: {equal} of {} captures: {}",
+        "replay: {} of {} captures, {} reads of port 2 in all bits, {} of them with bit 5 set, {} without bit 5: {}",
+        tallies.len(),
         names.len(),
+        sum(|overflow| overflow.whole),
+        sum(|overflow| overflow.set),
+        sum(|overflow| overflow.without),
         if passed { "no difference" } else { "FAILED" }
     );
     ExitCode::from(u8::from(!passed))

@@ -3,8 +3,8 @@
 //!     write address=2007 byte=41 unit=0000..09 oam:255 left@0010=80FF
 //!
 //! `NAME:N` lends another length than the right one; `NAME@OFFSET=BYTES` are bytes that are not
-//! zero, `BYTE*N` being N of the same; all else is zero. Lengths, `N` and `most` are decimal, all
-//! else is hex.
+//! zero, `BYTES*N` being N times the same; all else is zero. Lengths, `N`, `most` and `scanline` are
+//! decimal, all else is hex.
 
 use crate::world::{Call, Kind, Name, World, LENGTHS, SLACK};
 use std::fmt::Write;
@@ -54,8 +54,8 @@ fn run_length(bytes: &[u8]) -> usize {
 }
 
 fn unhex(text: &str) -> Option<Vec<u8>> {
-    if let Some((byte, count)) = text.split_once('*') {
-        return Some(vec![u8::from_str_radix(byte, 16).ok()?; count.parse().ok()?]);
+    if let Some((bytes, count)) = text.split_once('*') {
+        return Some(unhex(bytes)?.repeat(count.parse().ok()?));
     }
     let pairs = (0..text.len()).step_by(2).map(|i| text.get(i..i + 2));
     pairs.map(|pair| u8::from_str_radix(pair?, 16).ok()).collect()
@@ -81,6 +81,7 @@ impl Case {
             Kind::Read => write!(text, " address={:04X}", call.address).unwrap(),
             Kind::Write => write!(text, " address={:04X} byte={:02X}", call.address, call.byte).unwrap(),
             Kind::Run => write!(text, " most={}", call.most).unwrap(),
+            Kind::Search => write!(text, " scanline={}", call.scanline).unwrap(),
             Kind::Dma | Kind::Line | Kind::Play | Kind::Text | Kind::Page => {}
         }
         for name in Name::ALL {
@@ -129,6 +130,7 @@ impl Case {
             "board" | "byte" => self.call.byte = u8::from_str_radix(value, 16).ok()?,
             "address" => self.call.address = u16::from_str_radix(value, 16).ok()?,
             "most" => self.call.most = value.parse().ok()?,
+            "scanline" => self.call.scanline = value.parse().ok()?,
             _ => {
                 let (memory, offset) = left.split_once('@').unwrap_or((left, "0"));
                 let (offset, bytes) = (usize::from_str_radix(offset, 16).ok()?, unhex(value)?);
@@ -189,10 +191,14 @@ impl Case {
         let mut text = format!("case: {}\n", self.text());
         for (side, (answer, world)) in [("library", &outcome.library), ("second ", &outcome.second)] {
             let (number, byte, nmi) = (answer & 255, answer >> 8 & 255, answer >> 16 & 1);
-            let (count, rest) = (answer >> 32, answer >> 17 & 0x7FFF);
-            write!(text, "{side}: number {number}, byte {byte:02X}, count {count}, nmi {nmi}").unwrap();
+            let (looked, count, rest) = (answer >> 24 & 255, answer >> 32, answer >> 17 & 0x7F);
+            write!(
+                text,
+                "{side}: number {number}, byte {byte:02X}, count {count}, nmi {nmi}, looked {looked}"
+            )
+            .unwrap();
             if rest != 0 {
-                write!(text, ", bits 17 to 31 {rest:04X}").unwrap();
+                write!(text, ", bits 17 to 23 {rest:02X}").unwrap();
             }
             if self.call.kind.has_unit() {
                 write!(text, ", unit {}", hex(&world.of(Name::Unit)[..16])).unwrap();

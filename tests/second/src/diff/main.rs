@@ -11,6 +11,7 @@
 mod case;
 mod colours;
 mod mixed;
+mod overflow;
 mod random;
 mod scenery;
 mod systematic;
@@ -172,7 +173,7 @@ fn print_tally(tally: &Tally) {
         let refused: Vec<String> =
             (1..NUMBERS).filter(|&n| answers[n] > 0).map(|n| format!("{} refused {n}", answers[n])).collect();
         let refused = if refused.is_empty() { String::new() } else { format!(", {}", refused.join(", ")) };
-        println!("  {:5} {:9} calls: {} done{refused}", kind.text(), tally.of_kind(kind), answers[0]);
+        println!("  {:6} {:9} calls: {} done{refused}", kind.text(), tally.of_kind(kind), answers[0]);
     }
     println!(
         "  {} lines run, {} runs stopped early, {} runs of a log went on there, hit set {} times, overflow {}; pixels of line calls: {} sprite, {} background",
@@ -183,6 +184,16 @@ fn print_tally(tally: &Tally) {
         tally.overflows,
         tally.sprite_pixels,
         tally.background_pixels
+    );
+    println!(
+        "  line calls on which bit 5 stays clear with nine sprites in range or more: {}, is set with fewer: {}",
+        tally.passed_over, tally.mistaken
+    );
+    println!(
+        "  searches that looked at 64 sprites: {}, at fewer: {}, the least often met number {} times",
+        tally.looked.get(&64).unwrap_or(&0),
+        tally.looked.range(..64).map(|(_, searches)| searches).sum::<u64>(),
+        tally.looked.values().min().unwrap_or(&0)
     );
     println!(
         "  lines of the picture by line calls: {} in greyscale, {} with emphasis, {} with backdrop override",
@@ -201,6 +212,7 @@ fn is_whole(tally: &Tally) -> bool {
         Kind::Fresh | Kind::Dma | Kind::Line | Kind::Run => vec![0, 2, 3],
         Kind::Read | Kind::Write => vec![0, 1, 2, 3, 4],
         Kind::Play => vec![0, 1, 2, 3, 4, 5],
+        Kind::Search => vec![0, 2, 3, 5],
         Kind::Text => vec![0, 2],
         Kind::Page => vec![0, 2, 8],
     };
@@ -210,6 +222,8 @@ fn is_whole(tally: &Tally) -> bool {
         tally.went_on,
         tally.hits,
         tally.overflows,
+        tally.passed_over,
+        tally.mistaken,
         tally.sprite_pixels,
         tally.background_pixels,
         tally.grey,
@@ -218,6 +232,7 @@ fn is_whole(tally: &Tally) -> bool {
     ];
     Kind::ALL.into_iter().filter(asked).all(|k| reasons(k).iter().all(|&n| tally.answers[k as usize][n] > 0))
         && (!library::LINES || lines.iter().all(|&n| n > 0))
+        && tally.looked.keys().copied().eq(9..=64)
         && tally.bare_tiles > 0
 }
 

@@ -9,9 +9,10 @@ use crate::world::{Call, Kind, Name, SLACK};
 use Kind::*;
 
 /// What a session mostly does.
-const HABITS: [&[Kind]; 5] = [
+const HABITS: [&[Kind]; 6] = [
     &[Read, Read, Read, Write, Write, Write, Write, Dma],
     &[Read, Write, Write, Line, Line, Line, Line, Dma],
+    &[Read, Write, Line, Search, Search, Search, Dma],
     &[Read, Read, Write, Write, Write, Line, Run, Dma],
     &[Write, Line, Line, Run, Run],
     &[Play, Play, Play, Play, Play, Play, Line, Dma],
@@ -45,7 +46,7 @@ pub fn session(trial: &mut Trial, random: &mut Random, calls: usize) -> Result<(
     Ok(())
 }
 
-/// Drawn lines, each with a unit of its own and sprites about it.
+/// Lines searched and drawn, each with a unit of its own and sprites about it.
 pub fn pictures(trial: &mut Trial, random: &mut Random, calls: usize) -> Result<(), Stop> {
     for number in 0..calls {
         if number % 50 == 0 {
@@ -57,6 +58,7 @@ pub fn pictures(trial: &mut Trial, random: &mut Random, calls: usize) -> Result<
         unit[12..14].copy_from_slice(&line.to_le_bytes());
         trial.set(Name::Unit, &unit);
         scatter_sprites(trial, random, Name::Oam);
+        trial.call(&Call::search(line))?;
         trial.call(&Call::line())?;
     }
     Ok(())

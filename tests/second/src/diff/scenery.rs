@@ -33,6 +33,31 @@ pub fn next_line(unit: &[u8; 16]) -> u16 {
     u16::from_le_bytes([unit[12], unit[13]])
 }
 
+pub fn sprite_height(unit: &[u8; 16]) -> u16 {
+    8 << (unit[0] >> 5 & 1)
+}
+
+/// Whether a byte, tried as the Y byte of a sprite of that height, is in range of the line.
+pub fn is_in_range(y: u8, line: u16, height: u16) -> bool {
+    (u16::from(y)..u16::from(y) + height).contains(&line)
+}
+
+/// A byte that is in range of the line.
+pub fn in_range(random: &mut Random, line: u16, height: u16) -> u8 {
+    line.saturating_sub(random.below(height.into()) as u16).min(255) as u8
+}
+
+/// A byte that is not in range of the line, often the first above or below.
+pub fn out_of_range(random: &mut Random, line: u16, height: u16) -> u8 {
+    loop {
+        let byte = random.byte();
+        let y = random.pick(&[(line + 1) as u8, line.wrapping_sub(height) as u8, 255, byte]);
+        if !is_in_range(y, line, height) {
+            return y;
+        }
+    }
+}
+
 /// Spoils a record in one place or more.
 pub fn spoil(random: &mut Random, unit: &mut [u8; 16]) {
     loop {
@@ -149,8 +174,30 @@ pub fn rows(random: &mut Random, table: &[u8; 256], number: usize) -> [u8; 960] 
     rows
 }
 
+/// OAM for the search on a line. Up to some sprite Y bytes are in range by one share, few, most or all of
+/// them; all other bytes by another, or none.
+pub fn crowd(random: &mut Random, line: u16, height: u16) -> [u8; 256] {
+    let (front, rest) = (random.pick(&[8, 16, 32, 64]), random.pick(&[0, 1, 4, 32, 64]));
+    let turn = random.within(8, 64);
+    std::array::from_fn(|at| {
+        let share = if at % 4 == 0 && at / 4 < turn { front } else { rest };
+        match random.below(64) < share {
+            true => in_range(random, line, height),
+            false => out_of_range(random, line, height),
+        }
+    })
+}
+
 /// OAM whose sprites have to do with the line.
 pub fn oam(random: &mut Random, line: u16) -> [u8; 256] {
+    let height = random.pick(&[8, 16]);
+    match random.below(5) {
+        0 => crowd(random, line, height),
+        _ => sprites(random, line),
+    }
+}
+
+fn sprites(random: &mut Random, line: u16) -> [u8; 256] {
     let mut oam = [0; 256];
     random.fill(&mut oam);
     let style = random.below(8);

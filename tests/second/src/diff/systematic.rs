@@ -1,23 +1,24 @@
 //! Sessions that go through all values of something.
 
 use crate::colours;
+use crate::overflow;
 use crate::random::Random;
 use crate::scenery;
 use crate::text;
 use crate::trial::{Stop, Trial};
-use crate::world::{Call, Kind, Name, KINDS, SLACK};
+use crate::world::{Call, Kind, Name, KINDS, SLACK, UNIT_KINDS};
 
 pub type Session = fn(&mut Trial, &mut Random, usize) -> Result<(), Stop>;
 
 /// Each kind of session, with the number of parts that it comes in.
-pub const SESSIONS: [(&str, Session, usize); 35] = [
+pub const SESSIONS: [(&str, Session, usize); 40] = [
     ("boards", boards, 1),
     ("addresses", addresses, 16),
     ("ports", ports, 8),
     ("lengths", lengths, KINDS),
     ("pairs of lengths", pairs_of_lengths, KINDS),
-    ("records", records, 7),
-    ("wide fields", wide_fields, 12),
+    ("records", records, UNIT_KINDS),
+    ("wide fields", wide_fields, 15),
     ("video memory", video_memory, 16),
     ("scroll writes", scroll_writes, 8),
     ("OAM port", oam_port, 4),
@@ -39,6 +40,11 @@ pub const SESSIONS: [(&str, Session, usize); 35] = [
     ("bytes of the palette", colours::palette_bytes, colours::TONES),
     ("v of a line that is off", colours::v_of_a_line_off, 16),
     ("last lines of runs", colours::last_lines, 4),
+    ("lines of a search", overflow::scanlines, 16),
+    ("Y bytes of a search", overflow::y_bytes, 16),
+    ("places of a search", overflow::places, 8),
+    ("searches and lines", overflow::searches_and_lines, 8),
+    ("order of a search's refusals", overflow::order_of_refusals, 4),
     ("tables of characters", text::tables, 8),
     ("places of a page", text::places_of_a_page, 2),
     ("places of the rows", text::places_of_rows, 4),
@@ -103,6 +109,12 @@ pub fn some_call(trial: &mut Trial, random: &mut Random, kind: Kind) -> Call {
             trial.set(Name::Log, &scenery::log_record(random, address));
             Call::play()
         }
+        Kind::Search => Call::search(match random.below(8) {
+            0 => random.next() as u16,
+            1 => random.pick(&[239, 240, 241, 255, 256, 261, 262, 65535]),
+            2..=4 => random.below(240) as u16,
+            _ => scenery::next_line(&trial.unit()).min(239),
+        }),
         Kind::Text => {
             trial.set(Name::Screen, &scenery::nametables(random)[..1024]);
             trial.set(Name::Table, &scenery::characters(random));
@@ -216,7 +228,7 @@ fn records(trial: &mut Trial, random: &mut Random, kind: usize) -> Result<(), St
 /// Every 16-bit value of v, t or next line.
 fn wide_fields(trial: &mut Trial, random: &mut Random, part: usize) -> Result<(), Stop> {
     let at = [4, 6, 12][part % 3];
-    let kind = [Kind::Read, Kind::Write, Kind::Dma, Kind::Line][part / 3];
+    let kind = [Kind::Read, Kind::Write, Kind::Dma, Kind::Line, Kind::Search][part / 3];
     refill(trial, random);
     for value in 0..=65535u16 {
         let mut unit = scenery::unit(random);
@@ -401,7 +413,7 @@ fn sprites_in_number(trial: &mut Trial, random: &mut Random, part: usize) -> Res
             for sprite in oam.chunks_mut(4) {
                 sprite[0] = 0xF8;
             }
-            for slot in random_slots(random, number) {
+            for slot in random_slots(random, number, 64) {
                 let up = random.below(2 + 16 * (part / 2)) as u16;
                 oam[4 * slot] = line.saturating_sub(up) as u8;
             }
@@ -413,10 +425,11 @@ fn sprites_in_number(trial: &mut Trial, random: &mut Random, part: usize) -> Res
     Ok(())
 }
 
-fn random_slots(random: &mut Random, number: usize) -> Vec<usize> {
-    let mut slots: Vec<usize> = (0..64).collect();
-    for i in 0..number.min(63) {
-        slots.swap(i, random.within(i, 63));
+/// So many of the first slots of OAM.
+pub fn random_slots(random: &mut Random, number: usize, first: usize) -> Vec<usize> {
+    let mut slots: Vec<usize> = (0..first).collect();
+    for i in 0..number {
+        slots.swap(i, random.within(i, first - 1));
     }
     slots.truncate(number);
     slots

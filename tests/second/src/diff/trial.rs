@@ -1,8 +1,9 @@
 //! Both sides of a session: the same calls on each, compared after every call.
 
 use crate::case::Case;
-use crate::scenery::next_line;
+use crate::scenery::{is_in_range, next_line, sprite_height};
 use crate::world::{Call, Kind, Name, World, KINDS};
+use std::collections::BTreeMap;
 
 /// Why a session ends before its time.
 pub enum Stop {
@@ -27,6 +28,11 @@ pub struct Tally {
     pub went_on: u64,
     pub hits: u64,
     pub overflows: u64,
+    /// Line calls that did not raise bit 5 with nine sprites in range or more, and that did with fewer.
+    pub passed_over: u64,
+    pub mistaken: u64,
+    /// Searches by the number of sprites that they looked at.
+    pub looked: BTreeMap<u64, u64>,
     pub sprite_pixels: u64,
     pub background_pixels: u64,
     /// Line calls of lines 0 to 239 with mask bit 0 set, with one of bits 7-5, and off with v in the palette.
@@ -47,6 +53,11 @@ impl Tally {
         self.went_on += other.went_on;
         self.hits += other.hits;
         self.overflows += other.overflows;
+        self.passed_over += other.passed_over;
+        self.mistaken += other.mistaken;
+        for (&looked, searches) in &other.looked {
+            *self.looked.entry(looked).or_default() += searches;
+        }
         self.sprite_pixels += other.sprite_pixels;
         self.background_pixels += other.background_pixels;
         self.grey += other.grey;
@@ -129,28 +140,47 @@ impl<'a> Trial<'a> {
     fn count(&mut self, call: &Call, answer: u64, before: &[u8; 16]) {
         let tally = &mut self.tally;
         tally.answers[call.kind as usize][(answer & 255) as usize] += 1;
-        let lines = answer >> 32;
-        if call.kind == Kind::Text {
-            tally.bare_tiles += answer >> 32;
-        } else if lines > 0 {
-            let unit = self.library.of(Name::Unit);
-            let raised = unit[2] & !before[2];
-            let to_241 = (241 + 262 - u64::from(next_line(before))) % 262 + 1;
-            tally.lines_run += lines;
-            tally.early_stops += u64::from(call.kind == Kind::Run && lines < call.most.into());
-            tally.went_on += u64::from(call.kind == Kind::Play && before[0] & 0x80 != 0 && lines > to_241);
-            tally.hits += u64::from(raised >> 6 & 1);
-            tally.overflows += u64::from(raised >> 5 & 1);
-            if call.kind == Kind::Line && next_line(before) < 240 {
-                tally.grey += u64::from(before[1] & 1);
-                tally.emphasis += u64::from(before[1] >> 5 != 0);
-                tally.backdrop_override += u64::from(before[1] & 0x18 == 0 && before[5] & 0x3F == 0x3F);
-            }
-            if call.kind == Kind::Line && unit[1] & 0x18 != 0 {
-                let line = &self.library.of(Name::Line)[..256];
-                tally.sprite_pixels += line.iter().filter(|&&p| p >= 16).count() as u64;
-                tally.background_pixels += line.iter().filter(|&&p| p > 0 && p < 16).count() as u64;
-            }
+        match (call.kind, answer >> 32) {
+            (Kind::Text, bare_tiles) => tally.bare_tiles += bare_tiles,
+            (Kind::Search, _) if answer & 255 != 0 => {}
+            (Kind::Search, _) => *tally.looked.entry(answer >> 24 & 255).or_default() += 1,
+            (_, 0) => {}
+            (_, lines) => self.count_lines(call, lines, before),
+        }
+    }
+
+    /// Counts what lines did; `before` is the record before them.
+    fn count_lines(&mut self, call: &Call, lines: u64, before: &[u8; 16]) {
+        let (tally, unit) = (&mut self.tally, self.library.of(Name::Unit));
+        let raised = unit[2] & !before[2];
+        let to_241 = (241 + 262 - u64::from(next_line(before))) % 262 + 1;
+        tally.lines_run += lines;
+        tally.early_stops += u64::from(call.kind == Kind::Run && lines < call.most.into());
+        tally.went_on += u64::from(call.kind == Kind::Play && before[0] & 0x80 != 0 && lines > to_241);
+        tally.hits += u64::from(raised >> 6 & 1);
+        tally.overflows += u64::from(raised >> 5 & 1);
+        if call.kind == Kind::Line && next_line(before) < 240 {
+            tally.grey += u64::from(before[1] & 1);
+            tally.emphasis += u64::from(before[1] >> 5 != 0);
+            tally.backdrop_override += u64::from(before[1] & 0x18 == 0 && before[5] & 0x3F == 0x3F);
+        }
+        if call.kind == Kind::Line && unit[1] & 0x18 != 0 {
+            let line = &self.library.of(Name::Line)[..256];
+            tally.sprite_pixels += line.iter().filter(|&&p| p >= 16).count() as u64;
+            tally.background_pixels += line.iter().filter(|&&p| p > 0 && p < 16).count() as u64;
+            self.count_overflow(before);
+        }
+    }
+
+    /// Counts a drawn line on which the search is not what a count of the sprites in range would be.
+    fn count_overflow(&mut self, before: &[u8; 16]) {
+        let (line, height) = (next_line(before), sprite_height(before));
+        let sprites = self.library.of(Name::Oam)[..256].chunks(4);
+        let are_many = sprites.filter(|sprite| is_in_range(sprite[0], line, height)).count() > 8;
+        let is_set = self.library.of(Name::Unit)[2] & 0x20 != 0;
+        if line < 240 && before[2] & 0x20 == 0 {
+            self.tally.passed_over += u64::from(are_many && !is_set);
+            self.tally.mistaken += u64::from(!are_many && is_set);
         }
     }
 }

@@ -113,13 +113,17 @@ pub enum Kind {
     Line,
     Run,
     Play,
+    /// The search for overflow.
+    Search,
     /// The text of a page.
     Text,
     /// The page of a text.
     Page,
 }
 
-pub const KINDS: usize = 9;
+/// The calls on a unit, which come first, and all.
+pub const UNIT_KINDS: usize = 8;
+pub const KINDS: usize = UNIT_KINDS + 2;
 
 impl Kind {
     pub const ALL: [Kind; KINDS] = [
@@ -130,12 +134,13 @@ impl Kind {
         Kind::Line,
         Kind::Run,
         Kind::Play,
+        Kind::Search,
         Kind::Text,
         Kind::Page,
     ];
 
     pub fn text(self) -> &'static str {
-        ["fresh", "read", "write", "dma", "line", "run", "play", "text", "page"][self as usize]
+        ["fresh", "read", "write", "dma", "line", "run", "play", "search", "text", "page"][self as usize]
     }
 
     /// The memories that such a call is lent.
@@ -146,6 +151,7 @@ impl Kind {
             Kind::Dma => &[Unit, Oam, Page],
             Kind::Line | Kind::Run => &[Unit, Left, Right, Nametables, Oam, Palette, Line, Colours],
             Kind::Play => &[Unit, Log, Left, Right, Nametables, Oam, Palette, Line, Colours],
+            Kind::Search => &[Unit, Oam],
             Kind::Text | Kind::Page => &[Screen, Rows, Table],
         }
     }
@@ -161,14 +167,15 @@ impl Kind {
     }
 }
 
-/// A call and its arguments; `byte` is the board of fresh, `most` the lines of run. What play plays
-/// stands in the log that it is lent.
+/// A call and its arguments; `byte` is the board of fresh, `most` the lines of run, `scanline` the line of
+/// search. What play plays stands in the log that it is lent.
 #[derive(Clone, Debug, PartialEq, Eq)]
 pub struct Call {
     pub kind: Kind,
     pub address: u16,
     pub byte: u8,
     pub most: u16,
+    pub scanline: u16,
     pub lengths: [usize; NAMES],
 }
 
@@ -204,6 +211,7 @@ macro_rules! performed {
                 side::run(unit, call.most, left, right, nametables, oam, palette, line, colours).into()
             }
             Kind::Play => side::play(unit, log, left, right, nametables, oam, palette, line, colours).into(),
+            Kind::Search => side::search(unit, call.scanline, oam).into(),
             Kind::Text => layer::text(screen, table, rows).into(),
             Kind::Page => layer::page(rows, table, screen).into(),
         }
@@ -212,7 +220,7 @@ macro_rules! performed {
 
 impl Call {
     pub fn new(kind: Kind) -> Call {
-        Call { kind, address: 0x2000, byte: 0, most: 0, lengths: LENGTHS }
+        Call { kind, address: 0x2000, byte: 0, most: 0, scanline: 0, lengths: LENGTHS }
     }
 
     pub fn fresh(board: u8) -> Call {
@@ -241,6 +249,10 @@ impl Call {
 
     pub fn play() -> Call {
         Call::new(Kind::Play)
+    }
+
+    pub fn search(scanline: u16) -> Call {
+        Call { scanline, ..Call::new(Kind::Search) }
     }
 
     pub fn text() -> Call {
