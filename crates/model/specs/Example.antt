@@ -8,7 +8,7 @@ use Rattle.model.specs.declared.Board.{Board}
 use Rattle.model.specs.declared.Wiring.the-variants.{SecondPage}
 use Rattle.model.specs.Unit.{Memory, accessCells, State, state, unit}
 use Rattle.model.specs.Record.{recordOf}
-use Rattle.model.specs.Calls.{own, other, Call, readCall, writeCall, dmaCall, lineCall, runCall}
+use Rattle.model.specs.Calls.{own, other, Call, readCall, writeCall, dmaCall, lineCall, runCall, searchCall}
 use Rattle.model.specs.Reload.{end, total, trace, dataCall, Places, Bytes, reload, Pair, Alike, Held, AllFit}
 use Rattle.model.specs.RecordLog.{RecordState, recordState, recordSystem, RecordPair, RecordAlike}
 
@@ -30,7 +30,7 @@ unfoldable pub start : State
 start = state (unit 127 255 224 255 32767 32767 7 true 255 255 240 true (record { wiring = SecondPage; writable = true })) (filled 255)
 
 -- twenty lines, up to next line 260: a read, a write that turns NMI on, a line, a run that stops after line 241; a read and a data write refused
--- with 1, a data write and sprite DMA with 2; a read from other memory; a run of the log, with no early stop
+-- with 1, a data write and sprite DMA with 2; a search, and one refused with 5; a read from other memory; a run of the log, with no early stop
 unfoldable pub one : List Call
 one =
     readCall own 8194
@@ -41,6 +41,8 @@ one =
     ∷ writeCall own 16391 1
     ∷ writeCall (other short) 8196 1
     ∷ dmaCall own []
+    ∷ searchCall own 239
+    ∷ searchCall own 240
     ∷ readCall (other (filled 1)) 16383
     ∷ runCall own 0 18
     ∷ []
@@ -57,8 +59,8 @@ pub record Example (a : Places) (b : Bytes) : Type 0 where
   pub pair : Pair dataCall start one two
   pub held : Held start
   pub fit : AllFit one × AllFit two × AllFit further
-  pub numbers : map (λ g. g .answer .number) (trace one start) ≡ 0 ∷ 0 ∷ 0 ∷ 0 ∷ 1 ∷ 1 ∷ 2 ∷ 2 ∷ 0 ∷ 0 ∷ []
-  pub lines : map (λ g. g .answer .lines) (trace one start) ≡ 0 ∷ 0 ∷ 1 ∷ 1 ∷ 0 ∷ 0 ∷ 0 ∷ 0 ∷ 0 ∷ 18 ∷ []
+  pub numbers : map (λ g. g .answer .number) (trace one start) ≡ 0 ∷ 0 ∷ 0 ∷ 0 ∷ 1 ∷ 1 ∷ 2 ∷ 2 ∷ 0 ∷ 5 ∷ 0 ∷ 0 ∷ []
+  pub lines : map (λ g. g .answer .lines) (trace one start) ≡ 0 ∷ 0 ∷ 1 ∷ 1 ∷ 0 ∷ 0 ∷ 0 ∷ 0 ∷ 0 ∷ 0 ∷ 0 ∷ 18 ∷ []
   pub next-line : end one start .unit .scanline ≡ 260
   -- the logs leave different records, and the reload makes them equal
   pub differ : recordOf (end one start .unit) ≡ recordOf (end two start .unit) → ⊥
