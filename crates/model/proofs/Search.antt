@@ -10,10 +10,10 @@ use lib.Dec.{eqb, leb, ltb}
 use lib.ListN.{length}
 use borrow.Author.Tests.{leb-true, leb-false, lt-leb, lt-ltb, le-ltb, eq-eqb}
 use Rattle.model.specs.declared.Ppu.{Ppu}
-use Rattle.model.specs.Unit.{State, oamLength, bit, isWellFormed, isRendering, isDrawing}
+use Rattle.model.specs.Unit.{State, oamLength, recordLength, long, bit, isWellFormed, isRendering, isDrawing, nmiLevel}
 use Rattle.model.specs.Sprites.{covers, countOf, tried, Look, lookedOn, lookOn, looksOf, overflows, lookedAt}
 use Rattle.model.specs.Line.{marked, statusOf, drawnUnit, drawnLine, oneLine}
-use Rattle.model.specs.Calls.{refusal, lookedAnswer, Lent, Call, readCall, writeCall, dmaCall, lineCall, runCall, searchCall, Outcome, outcome, gate, done, readDone, writeDone, dmaDone, lineDone, runDone, searchDone, order, refusalOf, onLent}
+use Rattle.model.specs.Calls.{refusal, Lent, Call, readCall, writeCall, dmaCall, lineCall, runCall, searchCall, Outcome, outcome, gate, done, readDone, writeDone, dmaDone, lineDone, runDone, searchDone, order, refusalOf, onLent, exported, savedBytes, onRecord, exportedCall}
 use Rattle.model.specs.Theorems.{IsEighth, Searches, SearchCalls}
 use Rattle.model.proofs.Accepted.{and-none}
 
@@ -229,8 +229,17 @@ module _ (s : State) where
   unfolding onLent refusalOf order
   search-5 l n h = rw (le-ltb n 240 h)
 
+  exported-search-5 : (l : Lent) (n : ℕ) → 240 ≤ n → (b : List ℕ) → exportedCall (searchCall l n) b (s .memory) ≡ exported 5 b (s .memory)
+  unfolding exportedCall onRecord savedBytes
+  exported-search-5 l n h b = rw (le-ltb n 240 h) (go (long b recordLength))
+    where
+      go : (x : Bool) → exported 5 (cond x b b) (s .memory) ≡ exported 5 b (s .memory)
+      go true = refl
+      go false = refl
+
   search-0 : (l : Lent) (n : ℕ) → n < 240 → length (s .memory .cells .oam) ≡ oamLength → isWellFormed (s .unit) ≡ true
-      → onLent (searchCall l n) s ≡ outcome (lookedAnswer (lookedAt (s .unit .control) (s .memory .cells .oam) n) (s .unit)) s
+      → onLent (searchCall l n) s
+      ≡ outcome (record { number = 0; byte = 0; lines = 0; nmi = nmiLevel (s .unit); looked = lookedAt (s .unit .control) (s .memory .cells .oam) n }) s
   unfolding onLent refusalOf order done searchDone
   search-0 l n h e f = rw (lt-ltb n 240 h, eq-eqb (length (s .memory .cells .oam)) oamLength e, f, and-none (isDrawing (s .unit)))
 
@@ -275,6 +284,7 @@ unfolding done readDone writeDone dmaDone lineDone runDone
 search-calls s =
     record {
       search-5 = search-5 s;
+      exported-search-5 = exported-search-5 s;
       search-0 = search-0 s;
       search-keeps = search-keeps s;
       line-overflow = line-overflow s;

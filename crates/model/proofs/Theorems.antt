@@ -13,7 +13,7 @@ use borrow.Author.Tests.{lt-ltb, ltb-true, eq-eqb, ne-eqb}
 use Rattle.model.specs.declared.Ppu.{Ppu}
 use Rattle.model.specs.declared.Access.{Access}
 use Rattle.model.specs.declared.Answer.{Answer}
-use Rattle.model.specs.Unit.{Memory, State, state, recordLength, isWellFormed, isDrawing}
+use Rattle.model.specs.Unit.{Memory, dmaMemory, State, state, recordLength, isWellFormed, isDrawing}
 use Rattle.model.specs.Record.{at, unitOf, recordOf, bitByte}
 use Rattle.model.specs.Ports.{portOf}
 use Rattle.model.specs.Calls.{access, refusedAccess, loadCall, made, Saved, saveCall, refusal, Call, Outcome, outcome, outcomeOn, longFor, requestOk, order, inRange, blocked, refusalOf, done, gate, onLent, lentOf, lentMemory, call, packed, exported, onRecord, exportedCall}
@@ -360,7 +360,7 @@ theorems =
       refusals = refusals;
       packed-parts = packed-parts;
       round-trips = round-trips;
-      frames = record { frame = frame; exported-frame = exported-frame };
+      frames = record { frame = frame; exported-frame = exported-frame; oam-alone = λ l p n m m′ e. (ap dmaMemory e, ap dmaMemory e) };
       lending = lending;
       traces = traces;
       data-calls = data-calls;

@@ -8,14 +8,14 @@ use lib.ListN.{length}
 use Rattle.model.specs.declared.Board.{Board}
 use Rattle.model.specs.declared.Ppu.{Ppu}
 use Rattle.model.specs.declared.Answer.{Answer}
-use Rattle.model.specs.Unit.{nametableLength, oamLength, lineLength, coloursLength, Cells, Memory, withCells, withLines, accessMemory, dmaMemory, State, state, zeroUnit, recordLength, bit, isWellFormed, isRendering, isDrawing}
+use Rattle.model.specs.Unit.{nametableLength, oamLength, lineLength, coloursLength, Cells, Memory, withCells, withLines, accessMemory, dmaMemory, State, state, zeroUnit, recordLength, bit, isWellFormed, isRendering, isDrawing, nmiLevel}
 use Rattle.model.specs.Record.{at, recordOf, bitByte}
 use Rattle.model.specs.Address.{paletteCell, nametableByte, withOam, quarterPart}
 use Rattle.model.specs.Ports.{portOf, dataByte}
 use Rattle.model.specs.Sprites.{covers, countOf, tried, overflows, lookedAt}
 use Rattle.model.specs.Colours.{shownCell, colourAt, numbersOf}
 use Rattle.model.specs.Line.{oneLine}
-use Rattle.model.specs.Calls.{made, loadCall, saved, saveCall, refusal, lookedAnswer, Lent, own, other, Call, readCall, writeCall, dmaCall, lineCall, runCall, searchCall, Outcome, outcome, longFor, requestOk, inRange, blocked, refusalOf, done, onLent, lentOf, given, call, packed, Exported, exported, onRecord, exportedCall}
+use Rattle.model.specs.Calls.{made, loadCall, saved, saveCall, refusal, Lent, own, other, Call, readCall, writeCall, dmaCall, lineCall, runCall, searchCall, Outcome, outcome, longFor, requestOk, inRange, blocked, refusalOf, done, onLent, lentOf, given, call, packed, Exported, exported, onRecord, exportedCall}
 use Rattle.model.specs.Reload.{end, total, trace, dataCall, At, Places, Bytes, seven, joined, reload, step, without, Pair, Alike, Within, allBelow, bytesOnly, Held, LentFits, Fits, AllFit, Needed, endOf}
 use Rattle.model.specs.RecordLog.{RecordState, recordState, recordGiven, recordCall, recordTrace, recordSystem, RecordPair, RecordNeeded, RecordAlike}
 use Rattle.model.specs.Log.{recordKnown, recordCall as recordsCall, playCall, exportedPlay}
@@ -87,6 +87,9 @@ pub record Frames : Type 0 where
   pub frame : (c : Call) (u : Ppu) (m : Memory) → onLent c (state u m) ≡ restores c m (onLent c (state u (lentTo c m)))
   pub exported-frame : (c : Call) (l : List ℕ) (m : Memory)
       → exportedCall c l m ≡ (let e : Exported = exportedCall c l (lentTo c m) in exported (e .result) (e .bytes) (restored c m (e .memory)))
+  -- sprite DMA and a search are lent OAM alone
+  pub oam-alone : (l : Lent) (p : List ℕ) (n : ℕ) (m m′ : Memory) → m .cells .oam ≡ m′ .cells .oam
+      → (lentTo (dmaCall l p) m ≡ lentTo (dmaCall l p) m′) × (lentTo (searchCall l n) m ≡ lentTo (searchCall l n) m′)
 
 -- CALLS OF A LOG. Lent the unit's own memory, a call leaves that as the call makes it; lent other memory, it is the call over that, and the
 -- unit's own stays
@@ -235,8 +238,10 @@ pub record Searches (c : ℕ) (o : List ℕ) (n : ℕ) : Type 0 where
 -- status bit 5 is set by the search on that line. No other call reports sprites looked at
 pub record SearchCalls (s : State) : Type 0 where
   pub search-5 : (l : Lent) (n : ℕ) → 240 ≤ n → onLent (searchCall l n) s ≡ outcome (refusal 5) s
+  pub exported-search-5 : (l : Lent) (n : ℕ) → 240 ≤ n → (b : List ℕ) → exportedCall (searchCall l n) b (s .memory) ≡ exported 5 b (s .memory)
   pub search-0 : (l : Lent) (n : ℕ) → n < 240 → length (s .memory .cells .oam) ≡ oamLength → isWellFormed (s .unit) ≡ true
-      → onLent (searchCall l n) s ≡ outcome (lookedAnswer (lookedAt (s .unit .control) (s .memory .cells .oam) n) (s .unit)) s
+      → onLent (searchCall l n) s
+      ≡ outcome (record { number = 0; byte = 0; lines = 0; nmi = nmiLevel (s .unit); looked = lookedAt (s .unit .control) (s .memory .cells .oam) n }) s
   pub search-keeps : (l : Lent) (n : ℕ) → onLent (searchCall l n) s .after ≡ s
   pub line-overflow : s .unit .scanline < 240 → isRendering (s .unit) ≡ true
       → bit 32 (oneLine s .unit .status) ≡ (bit 32 (s .unit .status) || overflows (s .unit .control) (s .memory .cells .oam) (s .unit .scanline))
