@@ -18,7 +18,7 @@ use Rattle.model.proofs.Accepted.{is-refused, is-done, order-0, and-none, all5,
 
 -- making and saving a unit
 module _ (n : ℕ) (k : Bool) (r : Access) where
-  pub fresh-1 : (d : Board) (u : Ppu) → k ≡ boardOk n → k ≡ true → d ≡ boardAt n → u ≡ fresh d → r ≡ access (doneAnswer 0 0 u) u → r ≡ freshCall n
+  pub fresh-1 : (d : Board) (u : Ppu) → k ≡ boardOk n → k ≡ true → d ≡ boardAt n → u ≡ fresh d → r ≡ access (doneAnswer 0 u) u → r ≡ freshCall n
   unfolding freshCall
   fresh-1 d u e p f g h = h ∙ rw (g, f, ← e, p)
 
@@ -35,7 +35,7 @@ module _ (l : List ℕ) (n : ℕ) (e : n ≡ loadCall l .answer .number) (r : Ac
   pub load-1 : (n ≡ 0 → ⊥) → r ≡ unmade n → r ≡ loadCall l
   load-1 h f = f ∙ sym (is-unmade l n e h)
 
-  pub load-2 : (u : Ppu) → n ≡ 0 → u ≡ unitOf l → r ≡ access (doneAnswer 0 0 u) u → r ≡ loadCall l
+  pub load-2 : (u : Ppu) → n ≡ 0 → u ≡ unitOf l → r ≡ access (doneAnswer 0 u) u → r ≡ loadCall l
   load-2 u h f g = g ∙ ap made f ∙ sym (is-made true l n e h)
 
 pub ruleset load-cases = (load-1, load-2)
@@ -45,7 +45,7 @@ module _ (u : Ppu) (l l′ : List ℕ) (r : Access) where
   unfolding saveCall
   save-1 p f h = rw (f, h, ne-eqb (length l) 16 p)
 
-  pub save-2 : (w : Bool) → length l ≡ 16 → w ≡ isWellFormed u → w ≡ true → l′ ≡ recordOf u → r ≡ access (doneAnswer 0 0 u) u → saved r l′ ≡ saveCall u l
+  pub save-2 : (w : Bool) → length l ≡ 16 → w ≡ isWellFormed u → w ≡ true → l′ ≡ recordOf u → r ≡ access (doneAnswer 0 u) u → saved r l′ ≡ saveCall u l
   unfolding saveCall
   save-2 w n e p f h = rw (f, h, eq-eqb (length l) 16 n, ← e, p)
 

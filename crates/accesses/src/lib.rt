@@ -27,7 +27,7 @@ pub fn fresh(board: u8) -> Access
     if record::board_ok(board) {
         let b = record::board_at(board);
         let u = record::fresh(b);
-        return unit::done(0, 0, u);
+        return unit::done(0, u);
     }
     refusals::unmade(3)
 }
@@ -41,7 +41,7 @@ pub fn load(saved: &[u8]) -> Access
         return refusals::unmade(n);
     }
     let u = record::read_unit(saved);
-    unit::done(0, 0, u)
+    unit::done(0, u)
 }
 
 // The unit's record, written over 16 bytes: 2 for another length, 3 for a unit that is not well formed.
@@ -53,7 +53,7 @@ pub fn save(u: Ppu, saved: &mut [u8]) -> Access
     }
     if unit::well_formed(u) {
         record::put(u, saved);
-        return unit::done(0, 0, u);
+        return unit::done(0, u);
     }
     unit::refused(3, u)
 }

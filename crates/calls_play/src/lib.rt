@@ -27,7 +27,7 @@ fn read_done(
 {
     let byte = ports::read_byte(u, port, oam, palette);
     let next = ports::read_unit(u, port, byte, left, right, nametables, palette);
-    unit::done(byte, 0, next)
+    unit::done(byte, next)
 }
 
 // A log's read, as accesses::read.
@@ -79,12 +79,23 @@ pub fn play_entry(
         Entry::Write(address, byte) => {
             accesses::write(u, address, byte, left, right, nametables, oam, palette)
         }
-        Entry::Run(n) => runs::run_all(u, n, left, right, nametables, oam, palette, line, colours),
+        Entry::Run(n) => runs::run(
+            u,
+            n,
+            0,
+            left,
+            right,
+            nametables,
+            oam,
+            palette,
+            line,
+            colours,
+        ),
         Entry::Refused => unit::refused(5, u),
     }
 }
 
-// The record at the front of a log: a read, a write, or a run without early stop.
+// The record at the front of a log: a read, a write, or a run of just so many lines.
 pub fn play(
     u: Ppu,
     log: &[u8],

@@ -1,18 +1,18 @@
 -- The ways of each function, for `search`.
 use Prim.Native.Nat.{ℕ, _+_, _-_, _*_, _/_, _%_, _<_, _≤_}
 use mathlib.Core.Path.{_≡_, _∙_, sym}
-use mathlib.Core.Bool.{Bool, true, false, _&&_}
+use mathlib.Core.Bool.{Bool, true, false, not, _&&_, and-true}
 use native.Mathlib.Omega.{arith}
-use lib.Dec.{ltb}
+use lib.Dec.{eqb, ltb}
 use borrow.Author.Tests.{eq-eqb, ne-eqb, lt-ltb, le-ltb}
 use Rattle.model.specs.declared.Ppu.{Ppu}
 use Rattle.model.specs.Unit.{unit, withStatus, withScanline, bit, lastLine, isRendering}
 use Rattle.model.specs.Scroll.{rowDown, copySide}
-use Rattle.model.specs.Line.{idleLine, vblankLine, preRenderLine, blankUnit, anyOf, marked, hitOf, statusOf, drawnUnit, untilVblank, nmiCount}
+use Rattle.model.specs.Line.{idleLine, vblankLine, preRenderLine, blankUnit, anyOf, marked, hitOf, statusOf, drawnUnit}
 use mathlib.Core.List.{List}
 use Rattle.model.specs.Sprites.{overflows}
 use Rattle.model.proofs.Scroll.{down-lt}
-use Rattle.model.proofs.Line.{until-formula}
+use Rattle.model.proofs.Accepted.{and-none}
 
 -- lines that draw nothing
 module _ (u r : Ppu) (d : Bool) where
@@ -78,21 +78,30 @@ pub after-drawn : (u x : Ppu) (hit over : Bool) (v v′ s s′ : ℕ) → isRend
 unfolding drawnUnit statusOf
 after-drawn u x hit over v v′ s s′ on e₁ e₂ e₃ e₄ d l r n o eh ev = d ∙ rw (e₄, e₃, e₂, e₁, eh, ev, on)
 
--- how many lines a run runs
-module _ (u : Ppu) (n : ℕ) (b : Bool) (eb : b ≡ bit 128 (u .control)) where
-  module _ (k : ℕ) (h : u .scanline < 262) (ek : k ≡ (503 - u .scanline) % 262 + 1) where
-    formula : b ≡ true → nmiCount n u ≡ untilVblank (u .board) n (u .scanline)
-    unfolding nmiCount
-    formula t = rw (← eb, t)
+-- whether a line meets a run's reason
+module _ (why line c : ℕ) where
+  abbrev nmi : Bool
+  nmi = eqb why 1 && (bit 128 c && eqb line 241)
 
-    pub count-1 : b ≡ true → n < k → n ≡ nmiCount n u
-    count-1 t lt = sym (formula t ∙ until-formula (u .board) n (u .scanline) (omega arith) ∙ omega arith)
+  pub nmi-1 : (b : Bool) → line ≡ 241 → why ≡ 1 → b ≡ bit 128 c → b ≡ nmi
+  nmi-1 b l e f = f ∙ rw (eq-eqb why 1 e, eq-eqb line 241 l) (sym (and-true (bit 128 c)))
 
-    pub count-2 : b ≡ true → k ≤ n → k ≡ nmiCount n u
-    count-2 t le = sym (formula t ∙ until-formula (u .board) n (u .scanline) (omega arith) ∙ omega arith)
+  pub nmi-2 : (why ≡ 1 → ⊥) → false ≡ nmi
+  nmi-2 e = rw (ne-eqb why 1 e)
 
-  pub count-3 : b ≡ false → n ≡ nmiCount n u
-  unfolding nmiCount
-  count-3 f = rw (← eb, f)
+  pub nmi-3 : (line ≡ 241 → ⊥) → false ≡ nmi
+  nmi-3 l = rw (ne-eqb line 241 l, and-none (bit 128 c)) (sym (and-none (eqb why 1)))
 
-pub ruleset count-cases = (count-1, count-2, count-3)
+pub ruleset nmi-cases = (nmi-1, nmi-2, nmi-3)
+
+module _ (why s : ℕ) (hit : Bool) where
+  pub hit-1 : (b : Bool) → why ≡ 2 → b ≡ bit 64 s → b ≡ true → false ≡ (eqb why 2 && (not (bit 64 s) && hit))
+  hit-1 b e f t = rw (eq-eqb why 2 e, ← f, t)
+
+  pub hit-2 : (b : Bool) → why ≡ 2 → b ≡ bit 64 s → b ≡ false → hit ≡ (eqb why 2 && (not (bit 64 s) && hit))
+  hit-2 b e f t = rw (eq-eqb why 2 e, ← f, t)
+
+  pub hit-3 : (why ≡ 2 → ⊥) → false ≡ (eqb why 2 && (not (bit 64 s) && hit))
+  hit-3 e = rw (ne-eqb why 2 e)
+
+pub ruleset hit-cases = (hit-1, hit-2, hit-3)

@@ -1,13 +1,13 @@
 // What a line does to the unit alone: Ppu -> Ppu, no memory. Inner functions, not public calls.
-// A line that draws nothing: blank_line, pre_render. One that is drawn: draws, drawn, with_hit, with_overflow. Runs: nmi_count, until_vblank.
+// A line that draws nothing: blank_line, pre_render. One that is drawn: draws, drawn, with_hit, with_overflow. Where a run stops: meets_nmi, meets_hit.
 ghost use mathlib.Core.Path.{_≡_};
-ghost use mathlib.Core.Bool.{true, _&&_};
+ghost use mathlib.Core.Bool.{true, not, _&&_};
 ghost use mathlib.Core.List.{List};
-ghost use Prim.Native.Nat.{ℕ, _+_, _-_, _%_, _<_};
-ghost use lib.Dec.{ltb};
-ghost use Rattle.model.specs.Unit.{lineLength, isRendering};
+ghost use Prim.Native.Nat.{ℕ, _<_};
+ghost use lib.Dec.{eqb, ltb};
+ghost use Rattle.model.specs.Unit.{lineLength, bit, isRendering};
 ghost use Rattle.model.specs.Sprites.{overflows};
-ghost use Rattle.model.specs.Line.{preRenderLine, blankUnit, anyOf, hitOf, marked, drawnUnit, nmiCount};
+ghost use Rattle.model.specs.Line.{preRenderLine, blankUnit, anyOf, hitOf, marked, drawnUnit};
 use model::Ppu;
 
 // The unit after line 261.
@@ -88,28 +88,28 @@ pub fn drawn(u: Ppu, hit: bool, over: bool) -> Ppu
     n
 }
 
-// The lines from next line p until line 241 has run.
-fn until_vblank(p: u16) -> u16
-    requires { ⌜ p < 262 ⌝ }
-    ensures { λ r. ⌜ r ≡ (503 - p) % 262 + 1 ⌝ }
+// A line that is not drawn meets a run's reason to stop: 1, it is line 241 and control bit 7 is set.
+pub fn meets_nmi(reason: u8, control: u8, scanline: u16) -> bool
+    ensures { λ r. ⌜ r ≡ (eqb reason 1 && (bit 128 control && eqb scanline 241)) ⌝ }
 {
-    if p <= 241 {
-        return 242 - p;
+    if scanline == 241 {
+        if reason == 1 {
+            return bits::bit(control, 7);
+        }
+        return false;
     }
-    504 - p
+    false
 }
 
-// The lines that a run of at most n runs, if control bit 7 stops it after line 241.
-pub fn nmi_count(u: Ppu, n: u16) -> u16
-    requires { ⌜ u .scanline < 262 ⌝ }
-    ensures { λ r. ⌜ r ≡ nmiCount n u ⌝ }
+// A drawn line meets it: 2, status bit 6 is 0 before the line, and sprite 0 hits.
+pub fn meets_hit(reason: u8, status: u8, hit: bool) -> bool
+    ensures { λ r. ⌜ r ≡ (eqb reason 2 && (not (bit 64 status) && hit)) ⌝ }
 {
-    if bits::bit(u.control, 7) {
-        let most = until_vblank(u.scanline);
-        if n < most {
-            return n;
+    if reason == 2 {
+        if bits::bit(status, 6) {
+            return false;
         }
-        return most;
+        return hit;
     }
-    n
+    false
 }

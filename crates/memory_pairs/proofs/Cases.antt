@@ -16,25 +16,7 @@ use Rattle.model.proofs.Tab.{tab-none, tab-more, tab-done, tab-ext, tab-cong}
 use Rattle.model.proofs.Colours.{paired-long, paired-at, numbers-even}
 use Rattle.memory_pairs.specs.Pairs.{pairAt, storedPair, always, numberAt}
 
-module _ (n r : ℕ) where
-  pub count-1 : (k : ℕ) → k ≡ n % 2 → k ≡ 0 → r ≡ n / 2 → r ≡ cond (eqb (n % 2) 0) (n / 2) n
-  count-1 k h p e = e ∙ rw (eq-eqb (n % 2) 0 (sym h ∙ p))
-
-  pub count-2 : (k : ℕ) → k ≡ n % 2 → (k ≡ 0 → ⊥) → r ≡ n → r ≡ cond (eqb (n % 2) 0) (n / 2) n
-  count-2 k h p e = e ∙ rw (ne-eqb (n % 2) 0 (λ z. p (h ∙ z)))
-
-pub ruleset count-cases = (count-1, count-2)
-
--- how many numbers bytes are
-pub numbers-count : (l : List ℕ) → length (numbersOf l) ≡ cond (eqb (length l % 2) 0) (length l / 2) (length l)
-unfolding numbersOf
-numbers-count l = go (eqb (length l % 2) 0)
-  where
-    go : (x : Bool) → length (cond x (paired l) l) ≡ cond x (length l / 2) (length l)
-    go true = paired-long l
-    go false = refl
-
--- which they are
+-- the numbers that bytes are
 pub numbers-tab : (l : List ℕ) → length l ≡ 512 → numbersOf l ≡ tab (pairAt l) 256
 unfolding pairAt
 numbers-tab l h =

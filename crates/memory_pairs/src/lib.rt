@@ -1,23 +1,11 @@
 // The two-byte numbers that C lends as bytes, low byte first. Inner functions, not public calls.
-// count, word, take; low, high, store, put, put_same.
+// word, take; low, high, store, put, put_same.
 ghost use mathlib.Core.Path.{_≡_};
-ghost use mathlib.Core.Bool.{cond};
 ghost use Prim.Native.Nat.{_+_, _*_, _/_, _%_, _<_};
-ghost use lib.Dec.{eqb};
 ghost use lib.ListN.{length};
 ghost use Rattle.model.specs.Line.{tab};
 ghost use Rattle.model.specs.Colours.{numbersOf};
 ghost use Rattle.memory_pairs.specs.Pairs.{storedPair, always};
-
-// How many numbers n bytes are. An odd count of bytes stays what it is, and is refused by its length.
-pub fn count(n: usize) -> usize
-    ensures { λ r. ⌜ r ≡ cond (eqb (n % 2) 0) (n / 2) n ⌝ }
-{
-    if bits::low(n, 1) == 0 {
-        return n >> 1;
-    }
-    n
-}
 
 // The number of two bytes.
 fn word(low: u8, high: u8) -> u16

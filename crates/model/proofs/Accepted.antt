@@ -7,9 +7,9 @@ use native.Mathlib.Omega.{arith}
 use lib.Dec.{eqb}
 use lib.ListN.{length}
 use Rattle.model.specs.declared.Ppu.{Ppu}
-use Rattle.model.specs.Unit.{State}
+use Rattle.model.specs.Unit.{Memory, State, recordLength, long}
 use Rattle.model.specs.Record.{unitOf, recordOk}
-use Rattle.model.specs.Calls.{made, unmade, loadCall, Call, Outcome, outcome, refusal, order, refusalOf, gate, done, onLent}
+use Rattle.model.specs.Calls.{made, unmade, loadCall, Call, Outcome, outcome, refusal, requestOk, order, refusalOf, gate, done, onLent, exported, savedBytes, onRecord, exportedCall}
 use Rattle.model.proofs.Record.{loaded, load-is}
 
 gate-refused : (k : ℕ) (y : Outcome) (s : State) → (k ≡ 0 → ⊥) → outcome (refusal k) s ≡ gate k y s
@@ -24,6 +24,28 @@ module _ (c : Call) (s : State) (k : ℕ) (hk : k ≡ refusalOf c s) where
   pub is-done : k ≡ 0 → done c s ≡ onLent c s
   unfolding onLent
   is-done h = ap (λ (i : ℕ). gate i (done c s) s) (sym h ∙ hk)
+
+-- 5, whatever else holds
+pub is-unasked : (c : Call) (s : State) → requestOk c ≡ false → onLent c s ≡ outcome (refusal 5) s
+unfolding onLent refusalOf order
+is-unasked c s h = rw h
+
+pub exported-unasked : (c : Call) (b : List ℕ) (m : Memory) → requestOk c ≡ false → exportedCall c b m ≡ exported 5 b m
+unfolding exportedCall onRecord savedBytes
+exported-unasked c b m h = rw h (go (long b recordLength))
+  where
+    go : (x : Bool) → exported 5 (cond x b b) m ≡ exported 5 b m
+    go true = refl
+    go false = refl
+
+-- done, or refused with whatever number
+pub gated : (s : State) (c : Call) (P : Outcome → Type 0) → P (done c s) → ((k : ℕ) → P (outcome (refusal (suc k)) s)) → P (onLent c s)
+unfolding onLent
+gated s c P a b = go (refusalOf c s)
+  where
+    go : (k : ℕ) → P (gate k (done c s) s)
+    go zero = a
+    go (suc k) = b k
 
 -- the first refusal is 0: the lengths fit, and the unit is well formed
 pub order-0 : (k s w g d : Bool) → order k s w g d ≡ 0 → s ≡ true

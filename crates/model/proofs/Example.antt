@@ -11,8 +11,8 @@ use Rattle.model.specs.Unit.{State, state, zeroUnit, lastLine, isWellFor
 use Rattle.model.specs.Record.{recordOf}
 use Rattle.model.specs.Address.{placeOf, byteAt, cellOf, pageAt, paletteCell}
 use Rattle.model.specs.Ports.{stepped, wroteControl, wroteMask, wroteOamaddr, wroteScroll, wroteAddress, wrotePort, wroteMemory, wroteOamBytes, wroteVideo, readByte, readStatus, readData, readUnit, statusByte, dataByte, bufferByte}
-use Rattle.model.specs.Line.{oneLine, blankUnit, idleLine, vblankLine, preRenderLine, linesRun, untilVblank, nmiCount, lineCount}
-use Rattle.model.specs.Calls.{Call, onLent, call, refusalOf, order, done, readDone, writeDone, lineDone, runDone, searchDone}
+use Rattle.model.specs.Line.{oneLine, blankUnit, idleLine, vblankLine, preRenderLine, linesRun, meetsReason, lineCount, reasonMet}
+use Rattle.model.specs.Calls.{Call, onLent, call, refusalOf, order, done, readDone, writeDone, runDone, searchDone}
 use Rattle.model.specs.Reload.{end, endOf, totalOf, trace, dataCall, seven, joined, reload, allBelow, Quiet, Pair, Held}
 use Rattle.model.specs.Example.{filled, short, start, one, two, further, Example}
 use Rattle.model.proofs.Tests.{and-both}
@@ -43,7 +43,7 @@ quiet-log (c ∷ cs) s h =
     ((low, omega (arith, high)), quiet c s low high (not-done (dataCall c) (call c s .answer .number) (r .0)), quiet-log cs (call c s .after) (r .1))
 
 pair : Pair dataCall start one two
-unfolding start one two totalOf endOf call onLent refusalOf order done readDone writeDone lineDone runDone searchDone wrotePort wroteControl wroteMask wroteMemory wroteVideo wroteOamBytes readUnit readByte readStatus readData stepped statusByte dataByte bufferByte placeOf byteAt cellOf pageAt paletteCell isWellFormed isDrawing isRendering nmiLevel filled short oneLine blankUnit idleLine vblankLine linesRun lineCount nmiCount untilVblank
+unfolding start one two totalOf endOf call onLent refusalOf order done readDone writeDone runDone searchDone wrotePort wroteControl wroteMask wroteMemory wroteVideo wroteOamBytes readUnit readByte readStatus readData stepped statusByte dataByte bufferByte placeOf byteAt cellOf pageAt paletteCell isWellFormed isDrawing isRendering nmiLevel filled short oneLine blankUnit idleLine vblankLine linesRun meetsReason lineCount reasonMet
 pair = record { warm = refl; lengths = lengths 255 _; quiet-a = quiet-log one start refl; quiet-b = quiet-log two start refl; lines-run = refl }
 
 short-held : Held (state zeroUnit short)
@@ -51,18 +51,19 @@ unfolding short allBelow isWellFormed recordOf
 short-held = record { formed = refl; unit = refl; left = refl; right = refl; nametables = refl; oam = refl; palette = refl; line = refl; colours = refl }
 
 example : Example places bytes
-unfolding start one two further places bytes reload seven joined trace totalOf endOf call onLent refusalOf order done readDone writeDone lineDone runDone searchDone wrotePort wroteControl wroteMask wroteOamaddr wroteScroll wroteAddress wroteMemory wroteVideo wroteOamBytes readUnit readByte readStatus readData stepped statusByte dataByte bufferByte placeOf byteAt cellOf pageAt paletteCell isWellFormed isDrawing isRendering nmiLevel filled short oneLine blankUnit idleLine vblankLine preRenderLine linesRun lineCount nmiCount untilVblank recordOf allBelow
+unfolding start one two further places bytes reload seven joined trace totalOf endOf call onLent refusalOf order done readDone writeDone runDone searchDone wrotePort wroteControl wroteMask wroteOamaddr wroteScroll wroteAddress wroteMemory wroteVideo wroteOamBytes readUnit readByte readStatus readData stepped statusByte dataByte bufferByte placeOf byteAt cellOf pageAt paletteCell isWellFormed isDrawing isRendering nmiLevel filled short oneLine blankUnit idleLine vblankLine preRenderLine linesRun meetsReason lineCount reasonMet recordOf allBelow
 example =
     record {
       pair = pair;
       held = held 255 refl _ refl refl;
       fit = (
-        ((tt, lit< tt), ((tt, lit< tt, lit< tt), (tt, ((tt, lit< tt, lit< tt), ((tt, lit< tt), ((tt, lit< tt, lit< tt), ((short-held, lit< tt, lit< tt), ((tt, refl), ((tt, lit< tt), ((tt, lit< tt), ((held 1 refl zeroUnit refl refl, lit< tt), ((tt, lit< tt, lit< tt), tt)))))))))))),
+        ((tt, lit< tt), ((tt, lit< tt, lit< tt), ((tt, lit< tt, lit< tt), ((tt, lit< tt, lit< tt), ((tt, lit< tt, lit< tt), ((tt, lit< tt), ((tt, lit< tt, lit< tt), ((short-held, lit< tt, lit< tt), ((tt, refl), ((tt, lit< tt), ((tt, lit< tt), ((held 1 refl zeroUnit refl refl, lit< tt), ((tt, lit< tt, lit< tt), tt))))))))))))),
         ((tt, lit< tt, lit< tt), tt),
         ((tt, lit< tt, lit< tt), ((tt, lit< tt, lit< tt), ((tt, lit< tt), tt))),
       );
       numbers = refl;
       lines = refl;
+      met = refl;
       next-line = refl;
       differ = λ e. eqb-false 255 127 refl (ap (λ (r : List ℕ). getD r 0 0) e);
       equal = demand3 start one two pair places places bytes;

@@ -6,7 +6,7 @@ use Rattle.model.specs.Unit.{isWellFormed, isDrawing, isRendering, nmiLe
 use Rattle.model.specs.Record.{wiringAt}
 use Rattle.model.specs.Address.{placeOf, byteAt, stored, cellOf, pageAt, paletteCell}
 use Rattle.model.specs.Ports.{stepped, wroteControl, wroteMask, wroteOamaddr, wroteOam, wroteScroll, wroteAddress, wrotePort, wroteMemory, wroteOamBytes, wroteVideo, readByte, readStatus, readData, readUnit, statusByte, dataByte, bufferByte}
-use Rattle.model.specs.Line.{marked, statusOf, drawnUnit, drawnLine, idleLine, vblankLine, preRenderLine, blankUnit, oneLine, linesRun, lineCount}
+use Rattle.model.specs.Line.{marked, statusOf, drawnUnit, drawnLine, idleLine, vblankLine, preRenderLine, blankUnit, oneLine, linesRun, meetsReason, lineCount, reasonMet}
 use Rattle.model.specs.Calls.{refusalOf, order, readDone, writeDone, runDone, done, onLent}
 use Rattle.model.specs.Log.{recordsOf, recordKnown, recordCall, playOne, hexDigit, decimal, readText, runText, refusedText, doneText, kindOf, textOf, ends, playedText, startState, playerText}
 
@@ -35,5 +35,5 @@ exampleText =
     []
 
 pub example-printed : playerText exampleLog ≡ exampleText
-unfolding exampleLog exampleText playerText startState playedText recordsOf playOne recordKnown recordCall onLent refusalOf order done readDone writeDone runDone lineCount linesRun oneLine drawnLine drawnUnit statusOf marked blankUnit idleLine vblankLine preRenderLine isWellFormed isDrawing isRendering nmiLevel wiringAt stepped wroteControl wroteMask wroteOamaddr wroteOam wroteScroll wroteAddress wrotePort wroteMemory wroteOamBytes wroteVideo readByte readStatus readData readUnit statusByte dataByte bufferByte placeOf byteAt stored cellOf pageAt paletteCell hexDigit decimal readText runText refusedText doneText kindOf textOf ends
+unfolding exampleLog exampleText playerText startState playedText recordsOf playOne recordKnown recordCall onLent refusalOf order done readDone writeDone runDone meetsReason lineCount reasonMet linesRun oneLine drawnLine drawnUnit statusOf marked blankUnit idleLine vblankLine preRenderLine isWellFormed isDrawing isRendering nmiLevel wiringAt stepped wroteControl wroteMask wroteOamaddr wroteOam wroteScroll wroteAddress wrotePort wroteMemory wroteOamBytes wroteVideo readByte readStatus readData readUnit statusByte dataByte bufferByte placeOf byteAt stored cellOf pageAt paletteCell hexDigit decimal readText runText refusedText doneText kindOf textOf ends
 example-printed = refl

@@ -18,7 +18,7 @@ use Rattle.model.specs.Address.{stored, placeOf}
 use Rattle.model.specs.Ports.{wroteUnit, wroteMemory, wroteOamBytes, wroteVideo, dmaOam}
 use Rattle.model.specs.Scroll.{rowDown}
 use Rattle.model.specs.Line.{marked, statusOf, drawnUnit, drawnLine, idleLine, vblankLine, preRenderLine, blankUnit, oneLine, linesRun, lineCount}
-use Rattle.model.specs.Calls.{Lent, own, other, Call, readCall, writeCall, dmaCall, lineCall, runCall, searchCall, Outcome, outcome, refusal, longFor, lineLong, requestOk, inRange, blocked, order, refusalOf, readDone, writeDone, dmaDone, lineDone, runDone, searchDone, done, gate, onLent, lentOf, lentMemory, ownMemory, call}
+use Rattle.model.specs.Calls.{Lent, own, other, Call, readCall, writeCall, dmaCall, runCall, searchCall, Outcome, outcome, refusal, longFor, lineLong, requestOk, inRange, blocked, order, refusalOf, readDone, writeDone, dmaDone, runDone, searchDone, done, gate, onLent, lentOf, lentMemory, ownMemory, call}
 use Rattle.model.proofs.Tests.{cond-both, and-l, and-r}
 use Rattle.model.proofs.Colours.{coloured-long}
 use Rattle.model.proofs.Line.{picture-long, line-cells, line-board, lines-board, run-next, run-reports}
@@ -119,11 +119,10 @@ lines-good zero s g = g
 lines-good (suc k) s g = line-good (linesRun k s) (lines-good k s g)
 
 pub done-sound : (c : Call) (s : State) → Good (s .unit) → Sound (s .unit) (done c s .after .unit)
-unfolding done readDone writeDone dmaDone lineDone runDone searchDone
+unfolding done readDone writeDone dmaDone runDone searchDone
 done-sound (readCall l a) s g = sound (kept-read (s .unit) g (a % 8) _ (s .memory .cells))
 done-sound (writeCall l a b) s g = sound (kept-write (s .unit) g b (a % 8))
 done-sound (dmaCall l p) s g = sound (kept-dma p (s .unit) g)
-done-sound (lineCall l) s g = record { good = line-good s g; board = line-board s }
 done-sound (runCall l why n) s g = record { good = lines-good (lineCount why n s) s g; board = lines-board (lineCount why n s) s }
 done-sound (searchCall l n) s g = record { good = g; board = refl }
 
@@ -157,11 +156,10 @@ fresh-good d = well (fresh d) (omega arith)
 
 -- THE NEXT LINE after any call is as many lines further as it reports, modulo the lines of a frame
 done-lines : (c : Call) (s : State) → Good (s .unit) → done c s .after .unit .scanline ≡ (s .unit .scanline + done c s .answer .lines) % (lastLine (s .unit .board) + 1)
-unfolding done readDone writeDone dmaDone lineDone runDone searchDone
+unfolding done readDone writeDone dmaDone runDone searchDone
 done-lines (readCall l a) s g = stays (kept-read (s .unit) g (a % 8) _ (s .memory .cells) .nums) g
 done-lines (writeCall l a b) s g = stays (kept-write (s .unit) g b (a % 8) .nums) g
 done-lines (dmaCall l p) s g = stays (kept-dma p (s .unit) g .nums) g
-done-lines (lineCall l) s g = unfold linesRun in run-next 1 s (omega arith)
 done-lines (runCall l why n) s g = run-reports l why n s (omega arith)
 done-lines (searchCall l n) s g = stays (kept-refl (s .unit) g .nums) g
 
@@ -268,13 +266,10 @@ drawn-long : {m m′ : Memory} → m′ .cells ≡ m .cells → LineLong m → L
 drawn-long {m} {m′} e h k = record { cells = subst (SameCells (m .cells)) (sym e) (same-cells (m .cells)); line = k .line ∙ sym (h .line); colours = k .colours ∙ sym (h .colours) }
 
 done-long : (c : Call) (s : State) → longFor c (s .unit) (s .memory) ≡ true → SameLengths (s .memory) (done c s .after .memory)
-unfolding done readDone writeDone dmaDone lineDone runDone searchDone
+unfolding done readDone writeDone dmaDone runDone searchDone
 done-long (readCall l a) s h = same-long (s .memory)
 done-long (writeCall l a b) s h = record { cells = wrote-long (a % 8) (s .unit) b (s .memory .cells); line = refl; colours = refl }
 done-long (dmaCall l p) s h = record { cells = record { left = refl; right = refl; nametables = refl; oam = dma-long p (s .unit) (s .memory .cells .oam); palette = refl }; line = refl; colours = refl }
-done-long (lineCall l) s h =
-    let f = line-fits (s .unit) (s .memory) (subst T (sym h) tt) in
-    drawn-long (line-cells s) f (line-long s f)
 done-long (runCall l why n) s h =
     let f = line-fits (s .unit) (s .memory) (subst T (sym h) tt) in
     let k = lineCount why n s in

@@ -10,12 +10,12 @@ use lib.Dec.{eqb, leb, ltb}
 use lib.ListN.{length}
 use borrow.Author.Tests.{leb-true, leb-false, lt-leb, lt-ltb, le-ltb, eq-eqb}
 use Rattle.model.specs.declared.Ppu.{Ppu}
-use Rattle.model.specs.Unit.{State, oamLength, recordLength, long, bit, isWellFormed, isRendering, isDrawing, nmiLevel}
+use Rattle.model.specs.Unit.{State, oamLength, bit, isWellFormed, isRendering, isDrawing, nmiLevel}
 use Rattle.model.specs.Sprites.{covers, countOf, tried, Look, lookedOn, lookOn, looksOf, overflows, lookedAt}
 use Rattle.model.specs.Line.{marked, statusOf, drawnUnit, drawnLine, oneLine}
-use Rattle.model.specs.Calls.{refusal, Lent, Call, readCall, writeCall, dmaCall, lineCall, runCall, searchCall, Outcome, outcome, gate, done, readDone, writeDone, dmaDone, lineDone, runDone, searchDone, order, refusalOf, onLent, exported, savedBytes, onRecord, exportedCall}
+use Rattle.model.specs.Calls.{Lent, Call, readCall, writeCall, dmaCall, runCall, searchCall, Outcome, outcome, done, readDone, writeDone, dmaDone, runDone, searchDone, order, refusalOf, onLent}
 use Rattle.model.specs.Theorems.{IsEighth, Searches, SearchCalls}
-use Rattle.model.proofs.Accepted.{and-none}
+use Rattle.model.proofs.Accepted.{is-unasked, exported-unasked, gated, and-none}
 
 module _ (c : ℕ) (o : List ℕ) (n : ℕ) where
   -- one sprite more is counted if it is in range
@@ -225,39 +225,18 @@ searches c o n =
 
 -- THE CALL
 module _ (s : State) where
-  search-5 : (l : Lent) (n : ℕ) → 240 ≤ n → onLent (searchCall l n) s ≡ outcome (refusal 5) s
-  unfolding onLent refusalOf order
-  search-5 l n h = rw (le-ltb n 240 h)
-
-  exported-search-5 : (l : Lent) (n : ℕ) → 240 ≤ n → (b : List ℕ) → exportedCall (searchCall l n) b (s .memory) ≡ exported 5 b (s .memory)
-  unfolding exportedCall onRecord savedBytes
-  exported-search-5 l n h b = rw (le-ltb n 240 h) (go (long b recordLength))
-    where
-      go : (x : Bool) → exported 5 (cond x b b) (s .memory) ≡ exported 5 b (s .memory)
-      go true = refl
-      go false = refl
-
   search-0 : (l : Lent) (n : ℕ) → n < 240 → length (s .memory .cells .oam) ≡ oamLength → isWellFormed (s .unit) ≡ true
       → onLent (searchCall l n) s
-      ≡ outcome (record { number = 0; byte = 0; lines = 0; nmi = nmiLevel (s .unit); looked = lookedAt (s .unit .control) (s .memory .cells .oam) n }) s
+      ≡ outcome (record { number = 0; byte = 0; lines = 0; nmi = nmiLevel (s .unit); met = false; looked = lookedAt (s .unit .control) (s .memory .cells .oam) n }) s
   unfolding onLent refusalOf order done searchDone
   search-0 l n h e f = rw (lt-ltb n 240 h, eq-eqb (length (s .memory .cells .oam)) oamLength e, f, and-none (isDrawing (s .unit)))
 
-  -- whatever a call is refused with
-  gated : (c : Call) (P : Outcome → Type 0) → P (done c s) → ((k : ℕ) → P (outcome (refusal (suc k)) s)) → P (onLent c s)
-  unfolding onLent
-  gated c P a b = go (refusalOf c s)
-    where
-      go : (k : ℕ) → P (gate k (done c s) s)
-      go zero = a
-      go (suc k) = b k
-
   looked-0 : (c : Call) → done c s .answer .looked ≡ 0 → onLent c s .answer .looked ≡ 0
-  looked-0 c h = gated c (λ (o : Outcome). o .answer .looked ≡ 0) h (λ k. refl)
+  looked-0 c h = gated s c (λ (o : Outcome). o .answer .looked ≡ 0) h (λ k. refl)
 
   search-keeps : (l : Lent) (n : ℕ) → onLent (searchCall l n) s .after ≡ s
   unfolding done searchDone
-  search-keeps l n = gated (searchCall l n) (λ (o : Outcome). o .after ≡ s) refl (λ k. refl)
+  search-keeps l n = gated s (searchCall l n) (λ (o : Outcome). o .after ≡ s) refl (λ k. refl)
 
 -- status bit 5 of a drawn line
 mark-5 : (b : Bool) (x : ℕ) → bit 32 (marked 32 b x) ≡ (bit 32 x || b)
@@ -280,14 +259,14 @@ unfolding oneLine drawnLine drawnUnit statusOf marked
 line-off-keeps s h e = rw (lt-ltb (s .unit .scanline) 240 h, e)
 
 pub search-calls : (s : State) → SearchCalls s
-unfolding done readDone writeDone dmaDone lineDone runDone
+unfolding done readDone writeDone dmaDone runDone
 search-calls s =
     record {
-      search-5 = search-5 s;
-      exported-search-5 = exported-search-5 s;
+      search-5 = λ l n h. is-unasked (searchCall l n) s (le-ltb n 240 h);
+      exported-search-5 = λ l n h b. exported-unasked (searchCall l n) b (s .memory) (le-ltb n 240 h);
       search-0 = search-0 s;
       search-keeps = search-keeps s;
       line-overflow = line-overflow s;
       line-off-keeps = line-off-keeps s;
-      looked-none = λ l a b why n p. (looked-0 s (readCall l a) refl, looked-0 s (writeCall l a b) refl, looked-0 s (dmaCall l p) refl, looked-0 s (lineCall l) refl, looked-0 s (runCall l why n) refl);
+      looked-none = λ l a b why n p. (looked-0 s (readCall l a) refl, looked-0 s (writeCall l a b) refl, looked-0 s (dmaCall l p) refl, looked-0 s (runCall l why n) refl);
     }

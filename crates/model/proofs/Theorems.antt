@@ -29,6 +29,7 @@ use Rattle.model.proofs.Colours.{colours, coloured-lines, colour-bytes}
 use Rattle.model.proofs.Search.{searches, search-calls}
 use Rattle.model.proofs.Kept.{done-num}
 use Rattle.model.proofs.Good.{call-good}
+use Rattle.model.proofs.Runs.{runs, run-calls}
 use Rattle.model.proofs.Reloaded.{idle, demand3}
 use Rattle.model.proofs.Needed.{seven-steps, nine-calls, needed}
 use Rattle.model.proofs.Text.{quarter-pages, rows, pages, screens}
@@ -123,10 +124,12 @@ bit-small false = omega arith
 packed-parts : (a : Answer) → PackedParts a
 packed-parts a =
     let s : bitByte (a .nmi) < 2 = bit-small (a .nmi) in
+    let t : bitByte (a .met) < 2 = bit-small (a .met) in
     record {
       number-at = λ n. omega arith;
       byte-at = λ n b. omega arith;
       nmi-at = λ n b. omega arith;
+      met-at = λ n b. omega arith;
       looked-at = λ n b l. omega arith;
       lines-at = λ n b l. omega arith;
     }
@@ -144,7 +147,7 @@ lending : Lending
 unfolding call recordCall exportedCall
 lending =
     record {
-      lent-of = λ l a b n p. (refl, refl, refl, refl, refl, refl);
+      lent-of = λ l a b n p. (refl, refl, refl, refl, refl);
       own-memory = λ c s e. rw e;
       other-memory = λ c s m e. rw e;
       own-record = λ c s e. rw e;
@@ -197,7 +200,7 @@ data-calls =
       data-write = λ l a b.
           ⊎-elim (λ (e : portOf a ≡ 4). rw (eq-eqb (portOf a) 4 e)) (λ (e : portOf a ≡ 7). rw (eq-eqb (portOf a) 7 e) (or-true (eqb (portOf a) 4)));
       no-data-write = λ l a b e f. rw (ne-eqb (portOf a) 4 e, ne-eqb (portOf a) 7 f);
-      no-data = λ l a why n. (refl, refl, refl, refl);
+      no-data = λ l a why n. (refl, refl, refl);
     }
 
 -- BYTES
@@ -230,7 +233,6 @@ arguments =
       fits-read = λ l a f. f;
       fits-write = λ l a b f. f;
       fits-dma = λ l p f. (f .0, bytes-below p (f .1));
-      fits-line = λ l f. f;
       fits-run = λ l why n f. f;
       fits-search = λ l n f. f;
       fits-lent = λ m f. f;
@@ -375,6 +377,8 @@ theorems =
       colour-bytes = colour-bytes;
       searches = searches;
       search-calls = search-calls;
+      runs = runs;
+      run-calls = run-calls;
       quarter-pages = quarter-pages;
       rows = rows;
       pages = pages;

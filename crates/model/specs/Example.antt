@@ -1,6 +1,6 @@
 -- Demand 3's conditions can be met: two logs with every kind of call in them, done and refused, which leave different units.
 use mathlib.Core.Path.{_≡_}
-use mathlib.Core.Bool.{true}
+use mathlib.Core.Bool.{true, false}
 use mathlib.Core.List.{List, [], _∷_, map}
 use Prim.Native.Nat.{ℕ, _*_}
 use lib.ListN.{replicate}
@@ -8,7 +8,7 @@ use Rattle.model.specs.declared.Board.{Board}
 use Rattle.model.specs.declared.Wiring.the-variants.{SecondPage}
 use Rattle.model.specs.Unit.{Memory, accessCells, State, state, unit}
 use Rattle.model.specs.Record.{recordOf}
-use Rattle.model.specs.Calls.{own, other, Call, readCall, writeCall, dmaCall, lineCall, runCall, searchCall}
+use Rattle.model.specs.Calls.{own, other, Call, readCall, writeCall, dmaCall, runCall, searchCall}
 use Rattle.model.specs.Reload.{end, total, trace, dataCall, Places, Bytes, reload, Pair, Alike, Held, AllFit}
 use Rattle.model.specs.RecordLog.{RecordState, recordState, recordSystem, RecordPair, RecordAlike}
 
@@ -29,14 +29,16 @@ short = record { cells = accessCells [] [] [] [] []; line = []; colours = [] }
 unfoldable pub start : State
 start = state (unit 127 255 224 255 32767 32767 7 true 255 255 240 true (record { wiring = SecondPage; writable = true })) (filled 255)
 
--- twenty lines, up to next line 260: a read, a write that turns NMI on, a line, a run that stops after line 241; a read and a data write refused
--- with 1, a data write and sprite DMA with 2; a search, and one refused with 5; a read from other memory; a run of the log, with no early stop
+-- twenty lines, up to next line 260: a read, a write that turns NMI on, a line that waits for a hit, a run that stops after line 241, one refused with 5;
+-- a read and a data write refused with 1, a data write and sprite DMA with 2; a search, and one refused with 5; a read from other memory; a run with no
+-- reason to stop
 unfoldable pub one : List Call
 one =
     readCall own 8194
     ∷ writeCall own 8192 255
-    ∷ lineCall own
+    ∷ runCall own 2 1
     ∷ runCall own 1 65535
+    ∷ runCall own 3 1
     ∷ readCall own 8191
     ∷ writeCall own 16391 1
     ∷ writeCall (other short) 8196 1
@@ -59,8 +61,10 @@ pub record Example (a : Places) (b : Bytes) : Type 0 where
   pub pair : Pair dataCall start one two
   pub held : Held start
   pub fit : AllFit one × AllFit two × AllFit further
-  pub numbers : map (λ g. g .answer .number) (trace one start) ≡ 0 ∷ 0 ∷ 0 ∷ 0 ∷ 1 ∷ 1 ∷ 2 ∷ 2 ∷ 0 ∷ 5 ∷ 0 ∷ 0 ∷ []
-  pub lines : map (λ g. g .answer .lines) (trace one start) ≡ 0 ∷ 0 ∷ 1 ∷ 1 ∷ 0 ∷ 0 ∷ 0 ∷ 0 ∷ 0 ∷ 0 ∷ 0 ∷ 18 ∷ []
+  pub numbers : map (λ g. g .answer .number) (trace one start) ≡ 0 ∷ 0 ∷ 0 ∷ 0 ∷ 5 ∷ 1 ∷ 1 ∷ 2 ∷ 2 ∷ 0 ∷ 5 ∷ 0 ∷ 0 ∷ []
+  pub lines : map (λ g. g .answer .lines) (trace one start) ≡ 0 ∷ 0 ∷ 1 ∷ 1 ∷ 0 ∷ 0 ∷ 0 ∷ 0 ∷ 0 ∷ 0 ∷ 0 ∷ 0 ∷ 18 ∷ []
+  pub met : map (λ g. g .answer .met) (trace one start)
+      ≡ false ∷ false ∷ false ∷ true ∷ false ∷ false ∷ false ∷ false ∷ false ∷ false ∷ false ∷ false ∷ false ∷ []
   pub next-line : end one start .unit .scanline ≡ 260
   -- the logs leave different records, and the reload makes them equal
   pub differ : recordOf (end one start .unit) ≡ recordOf (end two start .unit) → ⊥

@@ -1,21 +1,22 @@
 -- What is proved of the definitions: the statements. proofs/Theorems.antt has the proof of each.
 use mathlib.Core.Path.{_≡_}
-use mathlib.Core.Bool.{Bool, true, false, _||_}
+use mathlib.Core.Bool.{Bool, true, false, cond, not, _&&_, _||_}
 use mathlib.Core.List.{List, [], _∷_, _++_, map}
 use mathlib.Core.Logic.{_⊎_}
-use Prim.Native.Nat.{ℕ, _+_, _-_, _*_, _/_, _%_, _≤_, _<_}
+use Prim.Native.Nat.{ℕ, _+_, _-_, _*_, _/_, _%_, _≤_, _<_, min}
+use lib.Dec.{leb}
 use lib.ListN.{length}
 use Rattle.model.specs.declared.Board.{Board}
 use Rattle.model.specs.declared.Ppu.{Ppu}
 use Rattle.model.specs.declared.Answer.{Answer}
-use Rattle.model.specs.Unit.{nametableLength, oamLength, lineLength, coloursLength, Cells, Memory, withCells, withLines, accessMemory, dmaMemory, State, state, zeroUnit, recordLength, bit, isWellFormed, isRendering, isDrawing, nmiLevel}
+use Rattle.model.specs.Unit.{nametableLength, oamLength, lineLength, coloursLength, Cells, Memory, withCells, withLines, accessMemory, dmaMemory, State, state, zeroUnit, recordLength, bit, lastLine, isWellFormed, isRendering, isDrawing, nmiLevel}
 use Rattle.model.specs.Record.{at, recordOf, bitByte}
 use Rattle.model.specs.Address.{paletteCell, nametableByte, withOam, quarterPart}
 use Rattle.model.specs.Ports.{portOf, dataByte}
 use Rattle.model.specs.Sprites.{covers, countOf, tried, overflows, lookedAt}
 use Rattle.model.specs.Colours.{shownCell, colourAt, numbersOf}
-use Rattle.model.specs.Line.{oneLine}
-use Rattle.model.specs.Calls.{made, loadCall, saved, saveCall, refusal, Lent, own, other, Call, readCall, writeCall, dmaCall, lineCall, runCall, searchCall, Outcome, outcome, longFor, requestOk, inRange, blocked, refusalOf, done, onLent, lentOf, given, call, packed, Exported, exported, onRecord, exportedCall}
+use Rattle.model.specs.Line.{anyOf, hitOf, oneLine, linesRun, meetsReason, lineCount, reasonMet}
+use Rattle.model.specs.Calls.{made, loadCall, saved, saveCall, refusal, Lent, own, other, Call, readCall, writeCall, dmaCall, runCall, searchCall, Outcome, outcome, lineLong, longFor, requestOk, inRange, blocked, refusalOf, done, onLent, lentOf, given, call, packed, Exported, exported, onRecord, exportedCall}
 use Rattle.model.specs.Reload.{end, total, trace, dataCall, At, Places, Bytes, seven, joined, reload, step, without, Pair, Alike, Within, allBelow, bytesOnly, Held, LentFits, Fits, AllFit, Needed, endOf}
 use Rattle.model.specs.RecordLog.{RecordState, recordState, recordGiven, recordCall, recordTrace, recordSystem, RecordPair, RecordNeeded, RecordAlike}
 use Rattle.model.specs.Log.{recordKnown, recordCall as recordsCall, playCall, exportedPlay}
@@ -49,7 +50,8 @@ pub record Refusals : Type 0 where
 pub record PackedParts (a : Answer) : Type 0 where
   pub number-at : a .number < 256 → packed a % 256 ≡ a .number
   pub byte-at : a .number < 256 → a .byte < 256 → packed a / 256 % 256 ≡ a .byte
-  pub nmi-at : a .number < 256 → a .byte < 256 → packed a / 65536 % 256 ≡ bitByte (a .nmi)
+  pub nmi-at : a .number < 256 → a .byte < 256 → packed a / 65536 % 2 ≡ bitByte (a .nmi)
+  pub met-at : a .number < 256 → a .byte < 256 → packed a / 131072 % 128 ≡ bitByte (a .met)
   pub looked-at : a .number < 256 → a .byte < 256 → a .looked < 256 → packed a / 16777216 % 256 ≡ a .looked
   pub lines-at : a .number < 256 → a .byte < 256 → a .looked < 256 → packed a / 4294967296 ≡ a .lines
 
@@ -61,12 +63,11 @@ pub record RoundTrips : Type 0 where
   pub stays-formed : (c : Call) (s : State) → isWellFormed (s .unit) ≡ true → isWellFormed (call c s .after .unit) ≡ true
 
 -- WHAT IS NOT LENT to a call is neither read nor touched.
--- What a call is lent of m, the rest empty: an access all but the line buffers, sprite DMA and a search only OAM, a line or a run all
+-- What a call is lent of m, the rest empty: an access all but the line buffers, sprite DMA and a search only OAM, a run all
 abbrev pub lentTo : Call → Memory → Memory
 lentTo (readCall l a) m = accessMemory (m .cells .left) (m .cells .right) (m .cells .nametables) (m .cells .oam) (m .cells .palette)
 lentTo (writeCall l a b) m = accessMemory (m .cells .left) (m .cells .right) (m .cells .nametables) (m .cells .oam) (m .cells .palette)
 lentTo (dmaCall l p) m = dmaMemory (m .cells .oam)
-lentTo (lineCall l) m = m
 lentTo (runCall l why n) m = m
 lentTo (searchCall l n) m = dmaMemory (m .cells .oam)
 
@@ -75,7 +76,6 @@ abbrev pub restored : Call → Memory → Memory → Memory
 restored (readCall l a) m o = withLines o (m .line) (m .colours)
 restored (writeCall l a b) m o = withLines o (m .line) (m .colours)
 restored (dmaCall l p) m o = withCells m (withOam (m .cells) (o .cells .oam))
-restored (lineCall l) m o = o
 restored (runCall l why n) m o = o
 restored (searchCall l n) m o = withCells m (withOam (m .cells) (o .cells .oam))
 
@@ -95,7 +95,7 @@ pub record Frames : Type 0 where
 -- unit's own stays
 pub record Lending : Type 0 where
   pub lent-of : (l : Lent) (a b n : ℕ) (p : List ℕ)
-      → (lentOf (readCall l a) ≡ l) × (lentOf (writeCall l a b) ≡ l) × (lentOf (dmaCall l p) ≡ l) × (lentOf (lineCall l) ≡ l) × (lentOf (runCall l b n) ≡ l) × (lentOf (searchCall l n) ≡ l)
+      → (lentOf (readCall l a) ≡ l) × (lentOf (writeCall l a b) ≡ l) × (lentOf (dmaCall l p) ≡ l) × (lentOf (runCall l b n) ≡ l) × (lentOf (searchCall l n) ≡ l)
   pub own-memory : (c : Call) (s : State) → lentOf c ≡ own → call c s ≡ (let o : Outcome = onLent c s in given (o .answer) (o .after) (o .after .memory))
   pub other-memory : (c : Call) (s : State) (m : Memory) → lentOf c ≡ other m
       → call c s ≡ (let o : Outcome = onLent c (state (s .unit) m) in given (o .answer) (state (o .after .unit) (s .memory)) (o .after .memory))
@@ -120,7 +120,7 @@ pub record DataCalls : Type 0 where
   pub data-write : (l : Lent) (a b : ℕ) → (portOf a ≡ 4) ⊎ (portOf a ≡ 7) → dataCall (writeCall l a b) ≡ true
   pub no-data-write : (l : Lent) (a b : ℕ) → (portOf a ≡ 4 → ⊥) → (portOf a ≡ 7 → ⊥) → dataCall (writeCall l a b) ≡ false
   pub no-data : (l : Lent) (a why n : ℕ)
-      → (dataCall (readCall l a) ≡ false) × (dataCall (lineCall l) ≡ false) × (dataCall (runCall l why n) ≡ false) × (dataCall (searchCall l n) ≡ false)
+      → (dataCall (readCall l a) ≡ false) × (dataCall (runCall l why n) ≡ false) × (dataCall (searchCall l n) ≡ false)
 
 -- bytes are below 256, in a unit's record and in every memory, and finished colours are numbers of two bytes
 pub record HeldBytes : Type 0 where
@@ -136,8 +136,7 @@ pub record Arguments : Type 0 where
   pub fits-read : (l : Lent) (a : ℕ) → Fits (readCall l a) → LentFits l × (a < 65536)
   pub fits-write : (l : Lent) (a b : ℕ) → Fits (writeCall l a b) → LentFits l × (a < 65536) × (b < 256)
   pub fits-dma : (l : Lent) (p : List ℕ) → Fits (dmaCall l p) → LentFits l × AreBytes p
-  pub fits-line : (l : Lent) → Fits (lineCall l) → LentFits l
-  pub fits-run : (l : Lent) (why n : ℕ) → Fits (runCall l why n) → LentFits l × (why < 2) × (n < 65536)
+  pub fits-run : (l : Lent) (why n : ℕ) → Fits (runCall l why n) → LentFits l × (why < 256) × (n < 65536)
   pub fits-search : (l : Lent) (n : ℕ) → Fits (searchCall l n) → LentFits l × (n < 65536)
   pub fits-lent : (m : Memory) → LentFits (other m) → Held (state zeroUnit m)
   pub fits-all : (c : Call) (cs : List Call) → AllFit (c ∷ cs) → Fits c × AllFit cs
@@ -241,13 +240,55 @@ pub record SearchCalls (s : State) : Type 0 where
   pub exported-search-5 : (l : Lent) (n : ℕ) → 240 ≤ n → (b : List ℕ) → exportedCall (searchCall l n) b (s .memory) ≡ exported 5 b (s .memory)
   pub search-0 : (l : Lent) (n : ℕ) → n < 240 → length (s .memory .cells .oam) ≡ oamLength → isWellFormed (s .unit) ≡ true
       → onLent (searchCall l n) s
-      ≡ outcome (record { number = 0; byte = 0; lines = 0; nmi = nmiLevel (s .unit); looked = lookedAt (s .unit .control) (s .memory .cells .oam) n }) s
+      ≡ outcome (record { number = 0; byte = 0; lines = 0; nmi = nmiLevel (s .unit); met = false; looked = lookedAt (s .unit .control) (s .memory .cells .oam) n }) s
   pub search-keeps : (l : Lent) (n : ℕ) → onLent (searchCall l n) s .after ≡ s
   pub line-overflow : s .unit .scanline < 240 → isRendering (s .unit) ≡ true
       → bit 32 (oneLine s .unit .status) ≡ (bit 32 (s .unit .status) || overflows (s .unit .control) (s .memory .cells .oam) (s .unit .scanline))
   pub line-off-keeps : s .unit .scanline < 240 → isRendering (s .unit) ≡ false → oneLine s .unit .status ≡ s .unit .status
   pub looked-none : (l : Lent) (a b why n : ℕ) (p : List ℕ) → (onLent (readCall l a) s .answer .looked ≡ 0) × (onLent (writeCall l a b) s .answer .looked ≡ 0)
-      × (onLent (dmaCall l p) s .answer .looked ≡ 0) × (onLent (lineCall l) s .answer .looked ≡ 0) × (onLent (runCall l why n) s .answer .looked ≡ 0)
+      × (onLent (dmaCall l p) s .answer .looked ≡ 0) × (onLent (runCall l why n) s .answer .looked ≡ 0)
+
+-- DOCUMENT 02, REQUEST 3. Document 01's formula: from next line p, line 241 has run after ((241 - p) mod 262) + 1 lines
+abbrev pub untilVblank : Board → ℕ → ℕ
+untilVblank d p = (241 + (lastLine d + 1) - p) % (lastLine d + 1) + 1
+
+-- the line that a run from s comes to after k lines meets its reason
+abbrev pub meetsAt : ℕ → ℕ → State → Bool
+meetsAt why k s = meetsReason why (linesRun k s .unit) (oneLine (linesRun k s) .unit)
+
+-- a run of at most n lines from s. It stops after the first line that meets its reason, and then it is met, on the last of the n lines too; with none
+-- among them it runs all n, and it is not met. 0: never met. 1: the formula, or n without control bit 7; met exactly if that bit is set and the
+-- formula's number is at most n, and then next line is 242. 2: met by a line before which status bit 6 is 0 and after which it is 1
+pub record Runs (s : State) (n : ℕ) : Type 0 where
+  pub met-first : (why k : ℕ) → k < n → ((i : ℕ) → i < k → meetsAt why i s ≡ false) → meetsAt why k s ≡ true → (lineCount why n s ≡ k + 1) × (reasonMet why n s ≡ true)
+  pub met-none : (why : ℕ) → ((i : ℕ) → i < n → meetsAt why i s ≡ false) → (lineCount why n s ≡ n) × (reasonMet why n s ≡ false)
+  pub no-reason : (k : ℕ) → meetsAt 0 k s ≡ false
+  pub nmi-count : isWellFormed (s .unit) ≡ true → lineCount 1 n s ≡ cond (bit 128 (s .unit .control)) (min n (untilVblank (s .unit .board) (s .unit .scanline))) n
+  pub nmi-met : isWellFormed (s .unit) ≡ true → reasonMet 1 n s ≡ (bit 128 (s .unit .control) && leb (untilVblank (s .unit .board) (s .unit .scanline)) n)
+  pub nmi-next : isWellFormed (s .unit) ≡ true → reasonMet 1 n s ≡ true → linesRun (lineCount 1 n s) s .unit .scanline ≡ 242
+  pub hit-rises : (k : ℕ) → meetsAt 2 k s ≡ (not (bit 64 (linesRun k s .unit .status)) && bit 64 (oneLine (linesRun k s) .unit .status))
+
+-- the call: 5 for an unknown reason, first; done it reports lines run, the NMI level after them and whether the reason was met. The next line is as many
+-- lines further as it reports. With n = 0 nothing changes and nothing is met; with n = 1 a line is run. No other call reports lines or a reason met. A drawn line sets status
+-- bit 6 by sprite 0's hit, and no other line sets it
+pub record RunCalls (s : State) : Type 0 where
+  pub run-5 : (l : Lent) (why n : ℕ) → 3 ≤ why → onLent (runCall l why n) s ≡ outcome (refusal 5) s
+  pub exported-run-5 : (l : Lent) (why n : ℕ) → 3 ≤ why → (b : List ℕ) → exportedCall (runCall l why n) b (s .memory) ≡ exported 5 b (s .memory)
+  pub run-0 : (l : Lent) (why n : ℕ) → why < 3 → lineLong (s .unit) (s .memory) ≡ true → isWellFormed (s .unit) ≡ true
+      → onLent (runCall l why n) s
+      ≡ (let t : State = linesRun (lineCount why n s) s in outcome (record { number = 0; byte = 0; lines = lineCount why n s; nmi = nmiLevel (t .unit); met = reasonMet why n s; looked = 0 }) t)
+  pub run-next : (l : Lent) (why n : ℕ) → isWellFormed (s .unit) ≡ true
+      → onLent (runCall l why n) s .after .unit .scanline ≡ (s .unit .scanline + onLent (runCall l why n) s .answer .lines) % (lastLine (s .unit .board) + 1)
+  pub run-nothing : (l : Lent) (why : ℕ) → (onLent (runCall l why 0) s .after ≡ s) × (onLent (runCall l why 0) s .answer .lines ≡ 0) × (onLent (runCall l why 0) s .answer .met ≡ false)
+  pub run-one : (why : ℕ) → (lineCount why 1 s ≡ 1) × (reasonMet why 1 s ≡ meetsReason why (s .unit) (oneLine s .unit))
+  pub no-lines : (l : Lent) (a b n : ℕ) (p : List ℕ) → (onLent (readCall l a) s .answer .lines ≡ 0) × (onLent (writeCall l a b) s .answer .lines ≡ 0)
+      × (onLent (dmaCall l p) s .answer .lines ≡ 0) × (onLent (searchCall l n) s .answer .lines ≡ 0)
+  pub no-met : (l : Lent) (a b n : ℕ) (p : List ℕ) → (onLent (readCall l a) s .answer .met ≡ false) × (onLent (writeCall l a b) s .answer .met ≡ false)
+      × (onLent (dmaCall l p) s .answer .met ≡ false) × (onLent (searchCall l n) s .answer .met ≡ false)
+  pub line-hit : s .unit .scanline < 240 → isRendering (s .unit) ≡ true
+      → bit 64 (oneLine s .unit .status)
+      ≡ (bit 64 (s .unit .status) || anyOf (hitOf (s .unit) (s .memory .cells .left) (s .memory .cells .right) (s .memory .cells .nametables) (s .memory .cells .oam)) lineLength)
+  pub line-no-hit : 240 ≤ s .unit .scanline → bit 64 (s .unit .status) ≡ false → bit 64 (oneLine s .unit .status) ≡ false
 
 -- DOCUMENT 02, REQUEST 10. The page of a quarter: byte k of it is the one that answers at $2000 + 1024 q + k, with q modulo 4
 pub record QuarterPages (d : Board) (n : List ℕ) (q : ℕ) : Type 0 where
@@ -316,6 +357,8 @@ pub record Theorems : Type 0 where
   pub colour-bytes : (l : List ℕ) → ColourBytes l
   pub searches : (c : ℕ) (o : List ℕ) (n : ℕ) → Searches c o n
   pub search-calls : (s : State) → SearchCalls s
+  pub runs : (s : State) (n : ℕ) → Runs s n
+  pub run-calls : (s : State) → RunCalls s
   pub quarter-pages : (d : Board) (n : List ℕ) (q : ℕ) → QuarterPages d n q
   pub rows : (p t r : List ℕ) → Rows p t r
   pub pages : (r t p : List ℕ) → Pages r t p

@@ -80,7 +80,7 @@ unfolding readUnit readData bufferByte
 unit-lent k b u l r n o q = rw (place-lent (placeOf (u .board) (u .v)) l r n o q)
 
 pub read-1 : (u next : Ppu) (k b : ℕ) (l r n o q : List ℕ) (x : Access) → b ≡ readByte k u (accessCells [] [] [] o q)
-    → next ≡ readUnit k u b (video l r n q) → x ≡ access (doneAnswer b 0 next) next
+    → next ≡ readUnit k u b (video l r n q) → x ≡ access (doneAnswer b next) next
     → accessOutcome x l r n o q ≡ readDone k (state u (accessMemory l r n o q))
 unfolding readDone
 read-1 u next k b l r n o q x eb en ex =
@@ -88,11 +88,11 @@ read-1 u next k b l r n o q x eb en ex =
     let fn : next ≡ readUnit k u (readByte k u (accessCells l r n o q)) (accessCells l r n o q) =
     en ∙ unit-lent k b u l r n o q ∙ ap (λ (y : ℕ). readUnit k u y (accessCells l r n o q)) fb
     in
-    ap (λ (y : Access). accessOutcome y l r n o q) ex ∙ (λ i. outcome (doneAnswer (fb i) 0 (fn i)) (state (fn i) (accessMemory l r n o q)))
+    ap (λ (y : Access). accessOutcome y l r n o q) ex ∙ (λ i. outcome (doneAnswer (fb i) (fn i)) (state (fn i) (accessMemory l r n o q)))
 
 -- what a write hands back, by the unit after it
-pub wrote-1 : (n next : Ppu) (x : Access) → next ≡ n → x ≡ access (doneAnswer 0 0 next) next → x ≡ access (doneAnswer 0 0 n) n
-wrote-1 n next x e f = f ∙ ap (λ (y : Ppu). access (doneAnswer 0 0 y) y) e
+pub wrote-1 : (n next : Ppu) (x : Access) → next ≡ n → x ≡ access (doneAnswer 0 next) next → x ≡ access (doneAnswer 0 n) n
+wrote-1 n next x e f = f ∙ ap (λ (y : Ppu). access (doneAnswer 0 y) y) e
 
 -- an accepted write, from what its steps left
 memory-1 : (u : Ppu) (k b : ℕ) (l r n o p l′ r′ n′ o′ p′ : List ℕ)
@@ -102,7 +102,7 @@ unfolding wroteMemory
 memory-1 u k b l r n o p l′ r′ n′ o′ p′ hm ho = (λ i. withOam (hm i) (ho i)) ∙ video-oam k u b (video l r n p) o (wroteOamBytes k u b o)
 
 pub write-1 : (u : Ppu) (k b : ℕ) (l₀ r₀ n₀ o₀ p₀ l r n o p : List ℕ) (x : Access)
-    → video l r n p ≡ wroteVideo k u b (video l₀ r₀ n₀ p₀) → o ≡ wroteOamBytes k u b o₀ → x ≡ access (doneAnswer 0 0 (wroteUnit k u b)) (wroteUnit k u b)
+    → video l r n p ≡ wroteVideo k u b (video l₀ r₀ n₀ p₀) → o ≡ wroteOamBytes k u b o₀ → x ≡ access (doneAnswer 0 (wroteUnit k u b)) (wroteUnit k u b)
     → accessOutcome x l r n o p ≡ writeDone k b (state u (accessMemory l₀ r₀ n₀ o₀ p₀))
 unfolding writeDone
 write-1 u k b l₀ r₀ n₀ o₀ p₀ l r n o p x hv ho e =
@@ -143,8 +143,8 @@ module _ (page oam₀ : List ℕ) (n₀ : Ppu) where
 
 pub ruleset copy-cases = (copy-start, copy-again, copy-done)
 
-pub dma-1 : (u next : Ppu) (page o₀ o : List ℕ) (x : Access) → copied next o ≡ copyOf page (copied u o₀) → x ≡ access (doneAnswer 0 0 next) next
+pub dma-1 : (u next : Ppu) (page o₀ o : List ℕ) (x : Access) → copied next o ≡ copyOf page (copied u o₀) → x ≡ access (doneAnswer 0 next) next
     → dmaOutcome x o ≡ dmaDone page (state u (dmaMemory o₀))
 unfolding dmaDone copyOf
 dma-1 u next page o₀ o x e ex =
-    ap (λ (y : Access). dmaOutcome y o) ex ∙ (λ i. outcome (doneAnswer 0 0 (e i .unit)) (state (e i .unit) (dmaMemory (e i .oam))))
+    ap (λ (y : Access). dmaOutcome y o) ex ∙ (λ i. outcome (doneAnswer 0 (e i .unit)) (state (e i .unit) (dmaMemory (e i .oam))))

@@ -90,15 +90,15 @@ pub fn read(
 {
     let byte = read_byte(u, port, oam, palette);
     let next = read_unit(u, port, byte, left, right, nametables, palette);
-    unit::done(byte, 0, next)
+    unit::done(byte, next)
 }
 
 // What an accepted write hands back.
 fn wrote(u: Ppu, port: u16, byte: u8) -> Access
-    ensures { λ r. ⌜ r ≡ access (doneAnswer 0 0 (wroteUnit port u byte)) (wroteUnit port u byte) ⌝ }
+    ensures { λ r. ⌜ r ≡ access (doneAnswer 0 (wroteUnit port u byte)) (wroteUnit port u byte) ⌝ }
 {
     let next = registers::write_unit(u, port, byte);
-    unit::done(0, 0, next)
+    unit::done(0, next)
 }
 
 // An accepted write of a port.
@@ -143,5 +143,5 @@ pub fn dma(u: Ppu, oam: &mut [u8], page: &[u8]) -> Access
     ensures { λ r. ⌜ dmaOutcome r (now (oam .exit)) ≡ dmaDone (now (page .entry)) (state u (dmaMemory (now (oam .entry)))) ⌝ }
 {
     let next = copy_page(u, oam, page);
-    unit::done(0, 0, next)
+    unit::done(0, next)
 }

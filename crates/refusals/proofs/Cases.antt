@@ -13,7 +13,7 @@ use Rattle.model.specs.declared.Answer.{Answer}
 use Rattle.model.specs.declared.Access.{Access}
 use Rattle.model.specs.Unit.{fresh, zeroUnit, isWellFormed, isDrawing}
 use Rattle.model.specs.Record.{unitOf, recordOf, bytesOk, recordOk}
-use Rattle.model.specs.Calls.{refusedAccess, unmade, loadCall, packed, savedBytes, accessSizes, lineSizes, dmaSizes, addressOk, blockedRead, order, accessRefusal, plainRefusal}
+use Rattle.model.specs.Calls.{refusedAccess, unmade, loadCall, packed, savedBytes, accessSizes, dmaSizes, addressOk, blockedRead, order, accessRefusal, plainRefusal}
 
 pub unmade-1 : (n : ℕ) (d : Board) (u : Ppu) (r : Access) → d ≡ zeroUnit .board → u ≡ fresh d → r ≡ refusedAccess n u → r ≡ unmade n
 unmade-1 n d u r e f g = g ∙ ap (refusedAccess n) (f ∙ ap fresh e)
@@ -41,13 +41,16 @@ module _ (d : Board) (l r n o p : ℕ) where
 pub ruleset sizes-cases = (sizes-1, sizes-2, sizes-3, sizes-4, sizes-5)
 
 module _ (d : Board) (l r n o p b f : ℕ) (s : Bool) (es : s ≡ accessSizes d l r n o p) where
-  pub line-sizes-1 : s ≡ true → (b ≡ 256 → ⊥) → false ≡ lineSizes d l r n o p b f
+  abbrev run-fit : Bool
+  run-fit = accessSizes d l r n o p && (eqb b 256 && eqb f 512)
+
+  pub line-sizes-1 : s ≡ true → (b ≡ 256 → ⊥) → false ≡ run-fit
   line-sizes-1 t h = rw (← es, t, ne-eqb b 256 h)
 
-  pub line-sizes-2 : s ≡ true → b ≡ 256 → eqb f 256 ≡ lineSizes d l r n o p b f
+  pub line-sizes-2 : s ≡ true → b ≡ 256 → eqb f 512 ≡ run-fit
   line-sizes-2 t h = rw (← es, t, eq-eqb b 256 h)
 
-  pub line-sizes-3 : s ≡ false → false ≡ lineSizes d l r n o p b f
+  pub line-sizes-3 : s ≡ false → false ≡ run-fit
   line-sizes-3 t = rw (← es, t)
 
 pub ruleset line-sizes-cases = (line-sizes-1, line-sizes-2, line-sizes-3)
@@ -149,16 +152,7 @@ module _ (a : ℕ) where
 
 pub ruleset blocked-cases = (blocked-1, blocked-2)
 
--- the packed answer, and the record after a call
-module _ (a : Answer) (r : ℕ) where
-  pub pack-1 : a .nmi ≡ true → r ≡ a .number + a .byte * 256 + a .looked * 16777216 + a .lines * 4294967296 + 65536 → r ≡ packed a
-  pack-1 p e = rw p (omega (arith, e))
-
-  pub pack-2 : a .nmi ≡ false → r ≡ a .number + a .byte * 256 + a .looked * 16777216 + a .lines * 4294967296 → r ≡ packed a
-  pack-2 p e = rw p (omega (arith, e))
-
-pub ruleset pack-cases = (pack-1, pack-2)
-
+-- the record after a call
 module _ (x : Access) (l r : List ℕ) where
   pub after-1 : length l ≡ 16 → x .answer .number ≡ 0 → r ≡ recordOf (x .unit) → r ≡ savedBytes x l
   unfolding savedBytes

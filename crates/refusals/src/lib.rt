@@ -1,9 +1,12 @@
 // What the public calls share: the numbers of their refusals, and what an exported call leaves of its answer. Inner functions.
 // zero_board, unmade; lengths: access_sizes, dma_sizes, line_sizes; refusals: record_refusal, access_refusal, plain_refusal, blocked_read;
-// the record and the packed answer: pack, finish.
+// the record and the packed answer: flag, pack, finish.
 ghost use mathlib.Core.Path.{_≡_};
-ghost use mathlib.Core.Bool.{cond};
-ghost use Rattle.model.specs.Unit.{zeroUnit};
+ghost use mathlib.Core.Bool.{cond, _&&_};
+ghost use Prim.Native.Nat.{_*_, _<_};
+ghost use lib.Dec.{eqb};
+ghost use Rattle.model.specs.Unit.{zeroUnit, lineLength, coloursLength};
+ghost use Rattle.model.specs.Record.{bitByte};
 ghost use Rattle.model.specs.Calls.{
   unmade as unmadeOf,
   loadCall,
@@ -11,7 +14,6 @@ ghost use Rattle.model.specs.Calls.{
   savedBytes,
   accessSizes,
   dmaSizes,
-  lineSizes,
   addressOk,
   accessRefusal,
   plainRefusal,
@@ -78,7 +80,7 @@ pub fn dma_sizes(oam: usize, page: usize) -> bool
     page == 256
 }
 
-// The lengths of what a line or a run is lent.
+// The lengths of what a run is lent, its colours as bytes.
 pub fn line_sizes(
     board: Board,
     left: usize,
@@ -89,13 +91,13 @@ pub fn line_sizes(
     line: usize,
     colours: usize,
 ) -> bool
-    ensures { λ r. ⌜ r ≡ lineSizes board left right nametables oam palette line colours ⌝ }
+    ensures { λ r. ⌜ r ≡ (accessSizes board left right nametables oam palette && (eqb line lineLength && eqb colours (2 * coloursLength))) ⌝ }
 {
     if access_sizes(board, left, right, nametables, oam, palette) {
         if line != 256 {
             return false;
         }
-        return colours == 256;
+        return colours == 512;
     }
     false
 }
@@ -177,18 +179,26 @@ pub fn blocked_read(address: u16) -> bool
     port == 7
 }
 
-// Bits 0-7 number, 8-15 byte, 16 NMI level, 24-31 sprites looked at, 32-63 line count.
+// 1 if set.
+fn flag(set: bool) -> u64
+    ensures { λ r. ⌜ (r ≡ bitByte set) × (r < 2) ⌝ }
+{
+    if set {
+        return 1;
+    }
+    0
+}
+
+// Bits 0-7 number, 8-15 byte, 16 NMI level, 17 a run's reason met, 24-31 sprites looked at, 32-63 line count.
 pub fn pack(a: Answer) -> u64
     ensures { λ r. ⌜ r ≡ packed a ⌝ }
 {
-    let low = a.number as u64
+    a.number as u64
         + a.byte as u64 * 256
+        + flag(a.nmi) * 65536
+        + flag(a.met) * 131072
         + a.looked as u64 * 16777216
-        + a.lines as u64 * 4294967296;
-    if a.nmi {
-        return low + 65536;
-    }
-    low
+        + a.lines as u64 * 4294967296
 }
 
 // The record after a call: the next unit's where the call is done.

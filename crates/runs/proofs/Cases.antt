@@ -1,69 +1,59 @@
 -- The ways of each call, for `search`.
-use Prim.Native.Nat.{ℕ, _/_, _%_, _<_}
+use Prim.Native.Nat.{ℕ, _<_, _≤_}
 use mathlib.Core.Path.{_≡_, refl, sym, ap, _∙_}
-use mathlib.Core.Bool.{Bool, true, false, cond, _&&_}
+use mathlib.Core.Bool.{Bool, true, false, _&&_}
 use mathlib.Core.List.{List}
-use lib.Dec.{eqb}
+use lib.Dec.{ltb, eqb}
 use lib.ListN.{length}
 use native.Mathlib.Omega.{arith}
-use borrow.Author.Tests.{eqb-true, ne-eqb}
+use borrow.Author.Tests.{eqb-true, ne-eqb, lt-ltb, le-ltb}
 use Rattle.model.specs.declared.Ppu.{Ppu}
 use Rattle.model.specs.declared.Access.{Access}
 use Rattle.model.specs.Colours.{numbersOf}
-use Rattle.model.specs.Unit.{state, lineMemory, isWellFormed, isDrawing}
-use Rattle.model.specs.Line.{oneLine, linesRun, nmiCount, lineCount}
-use Rattle.model.specs.Calls.{access, doneAnswer, refusedAccess, own, Call, lineCall, runCall, Outcome, outcome, lineOutcome, accessSizes, lineSizes, requestOk, inRange, blocked, order, plainRefusal, longFor, refusalOf, lineDone, runDone, done, onLent}
-use Rattle.model.proofs.Good.{good-of}
-use Rattle.model.proofs.Accepted.{is-refused, is-done, order-0, order-formed, and-none, all5}
+use Rattle.model.specs.Unit.{State, state, lineMemory, bit, isRendering, isWellFormed, isDrawing}
+use Rattle.model.specs.Line.{blankUnit, oneLine}
+use Rattle.model.specs.Calls.{access, ranAnswer, refusedAccess, own, Call, runCall, Outcome, outcome, lineOutcome, accessSizes, lineSizes, order, plainRefusal, refusalOf, runDone, done, onLent}
+use Rattle.model.proofs.Accepted.{is-unasked, is-refused, is-done, order-0, order-formed, and-none, all5}
 use Rattle.model.proofs.Tests.{and-both}
 use Rattle.model.proofs.Colours.{sized-bytes}
-use Rattle.memory_pairs.proofs.Cases.{numbers-count}
-use Rattle.scanline.specs.Shown.{RunLengths}
+use Rattle.model.proofs.Runs.{meets-undrawn}
+use Rattle.scanline.specs.Shown.{RunLengths, IsRun}
+use Rattle.scanline.proofs.Cases.{one-run}
 
-pub run-1 : (u next : Ppu) (l r n o p b b′ f f′ : List ℕ) (k : ℕ) (x : Access) → state next (lineMemory l r n o p b′ f′) ≡ linesRun k (state u (lineMemory l r n o p b f))
-    → x ≡ access (doneAnswer 0 k next) next → lineOutcome x l r n o p b′ f′ ≡ runDone k (state u (lineMemory l r n o p b f))
-unfolding runDone
-run-1 u next l r n o p b b′ f f′ k x e g = ap (λ (y : Access). lineOutcome y l r n o p b′ f′) g ∙ (λ i. outcome (doneAnswer 0 k (e i .unit)) (e i))
+-- 5, whatever is lent
+pub run-unknown : (u : Ppu) (l r n o p b f : List ℕ) (why most : ℕ) (x : Access) → 2 < why → x ≡ refusedAccess 5 u
+    → lineOutcome x l r n o p b f ≡ onLent (runCall own why most) (state u (lineMemory l r n o p b f))
+run-unknown u l r n o p b f why most x h e =
+    ap (λ (y : Access). lineOutcome y l r n o p b f) e ∙ sym (is-unasked (runCall own why most) (state u (lineMemory l r n o p b f)) (le-ltb why 3 (omega arith)))
 
-module _ (u : Ppu) (l r n o p b f : List ℕ) (s : Bool) (k : ℕ) (hs : s ≡ lineSizes (u .board) (length l) (length r) (length n) (length o) (length p) (length b) (length f)) (hk : k ≡ plainRefusal s u) where
-  same-line : (c : Call) → requestOk c ≡ true → inRange c ≡ true → blocked c ≡ false → longFor c u (lineMemory l r n o p b f) ≡ lineSizes (u .board) (length l) (length r) (length n) (length o) (length p) (length b) (length f)
-      → k ≡ refusalOf c (state u (lineMemory l r n o p b f))
+-- lines that were run, and what they are as a run
+ran-is : (why most : ℕ) (s : State) (next : Ppu) (l r n o p b f : List ℕ) (k : ℕ) (met : Bool) (x : Access) → IsRun why most s k met (state next (lineMemory l r n o p b f))
+    → x ≡ access (ranAnswer k met next) next → lineOutcome x l r n o p b f ≡ done (runCall own why most) s
+unfolding done runDone
+ran-is why most s next l r n o p b f k met x is e =
+    ap (λ (y : Access). lineOutcome y l r n o p b f) e ∙ (λ i. outcome (ranAnswer (is .count i) (is .reason i) (is .after i .unit)) (is .after i))
+
+module _ (u : Ppu) (l r n o p b f : List ℕ) (s : Bool) (k : ℕ) (hs : s ≡ lineSizes (u .board) (length l) (length r) (length n) (length o) (length p) (length b) (length f)) (hk : k ≡ plainRefusal s u)
+    (why most : ℕ) (known : why ≤ 2) where
+  abbrev at : State
+  at = state u (lineMemory l r n o p b f)
+
+  same-run : k ≡ refusalOf (runCall own why most) at
   unfolding refusalOf plainRefusal
-  same-line c a e f g = hk ∙ rw (hs, a, e, f, g) (ap (order true _ (isWellFormed u) true) (sym (and-none (isDrawing u))))
+  same-run = hk ∙ rw (hs, lt-ltb why 3 (omega arith)) (ap (order true _ (isWellFormed u) true) (sym (and-none (isDrawing u))))
 
-  refused-line : (x : Access) → (k ≡ 0 → ⊥) → x ≡ refusedAccess k u → lineOutcome x l r n o p b f ≡ onLent (lineCall own) (state u (lineMemory l r n o p b f))
-  refused-line x h e = ap (λ (y : Access). lineOutcome y l r n o p b f) e ∙ is-refused (lineCall own) (state u (lineMemory l r n o p b f)) k (same-line (lineCall own) refl refl refl refl) h
+  refused-run : (x : Access) → (k ≡ 0 → ⊥) → x ≡ refusedAccess k u → lineOutcome x l r n o p b f ≡ onLent (runCall own why most) at
+  refused-run x h e = ap (λ (y : Access). lineOutcome y l r n o p b f) e ∙ is-refused (runCall own why most) at k same-run h
 
-  done-line : (x : Access) (next : Ppu) (b′ f′ : List ℕ) → k ≡ 0 → state next (lineMemory l r n o p b′ f′) ≡ oneLine (state u (lineMemory l r n o p b f))
-      → x ≡ access (doneAnswer 0 1 next) next → lineOutcome x l r n o p b′ f′ ≡ onLent (lineCall own) (state u (lineMemory l r n o p b f))
-  unfolding done lineDone
-  done-line x next b′ f′ h e g =
-      ap (λ (y : Access). lineOutcome y l r n o p b′ f′) g
-      ∙ (λ i. outcome (doneAnswer 0 1 (e i .unit)) (e i))
-      ∙ is-done (lineCall own) (state u (lineMemory l r n o p b f)) k (same-line (lineCall own) refl refl refl refl) h
+  done-run : (x : Access) (next : Ppu) (b′ f′ : List ℕ) (j : ℕ) (met : Bool) → k ≡ 0 → IsRun why most at j met (state next (lineMemory l r n o p b′ f′))
+      → x ≡ access (ranAnswer j met next) next → lineOutcome x l r n o p b′ f′ ≡ onLent (runCall own why most) at
+  done-run x next b′ f′ j met h is e = ran-is why most at next l r n o p b′ f′ j met x is e ∙ is-done (runCall own why most) at k same-run h
 
-  refused-run : (x : Access) (why most : ℕ) → (k ≡ 0 → ⊥) → x ≡ refusedAccess k u → lineOutcome x l r n o p b f ≡ onLent (runCall own why most) (state u (lineMemory l r n o p b f))
-  refused-run x why most h e =
-      ap (λ (y : Access). lineOutcome y l r n o p b f) e ∙ is-refused (runCall own why most) (state u (lineMemory l r n o p b f)) k (same-line (runCall own why most) refl refl refl refl) h
-
-  done-nmi : (x : Outcome) (most j : ℕ) → k ≡ 0 → j ≡ nmiCount most u → x ≡ runDone j (state u (lineMemory l r n o p b f))
-      → x ≡ onLent (runCall own 1 most) (state u (lineMemory l r n o p b f))
-  unfolding done lineCount
-  done-nmi x most j h e g =
-      g ∙ ap (λ (i : ℕ). runDone i (state u (lineMemory l r n o p b f))) e
-      ∙ is-done (runCall own 1 most) (state u (lineMemory l r n o p b f)) k (same-line (runCall own 1 most) refl refl refl refl) h
-
-  done-plain : (x : Access) (next : Ppu) (b′ f′ : List ℕ) (most : ℕ) → k ≡ 0 → state next (lineMemory l r n o p b′ f′) ≡ linesRun most (state u (lineMemory l r n o p b f))
-      → x ≡ access (doneAnswer 0 most next) next → lineOutcome x l r n o p b′ f′ ≡ onLent (runCall own 0 most) (state u (lineMemory l r n o p b f))
-  unfolding done lineCount
-  done-plain x next b′ f′ most h e g =
-      run-1 u next l r n o p b b′ f f′ most x e g ∙ is-done (runCall own 0 most) (state u (lineMemory l r n o p b f)) k (same-line (runCall own 0 most) refl refl refl refl) h
-
--- THE COLOURS AS BYTES c, which are q numbers
-module _ (u : Ppu) (l r n o p b c : List ℕ) (q : ℕ) (s : Bool) (k : ℕ) (eq : q ≡ cond (eqb (length c % 2) 0) (length c / 2) (length c))
-    (hq : s ≡ lineSizes (u .board) (length l) (length r) (length n) (length o) (length p) (length b) q) (hk : k ≡ plainRefusal s u) where
+-- THE COLOURS AS BYTES c
+module _ (u : Ppu) (l r n o p b c : List ℕ) (s : Bool) (k : ℕ)
+    (hq : s ≡ (accessSizes (u .board) (length l) (length r) (length n) (length o) (length p) && (eqb (length b) 256 && eqb (length c) 512))) (hk : k ≡ plainRefusal s u) where
   hs : s ≡ lineSizes (u .board) (length l) (length r) (length n) (length o) (length p) (length b) (length (numbersOf c))
-  hs = hq ∙ rw (eq, numbers-count c)
+  hs = hq ∙ rw (sized-bytes c)
 
   pub line-long : k ≡ 0 → RunLengths (u .board) l r n o p b c
   unfolding plainRefusal
@@ -83,24 +73,14 @@ module _ (u : Ppu) (l r n o p b c : List ℕ) (q : ℕ) (s : Bool) (k : ℕ) (eq
         colours = eqb-true (length c) 512 (sym (sized-bytes c) ∙ w .1);
       }
 
-  pub line-refused : (x : Access) → (k ≡ 0 → ⊥) → x ≡ refusedAccess k u → lineOutcome x l r n o p b (numbersOf c) ≡ onLent (lineCall own) (state u (lineMemory l r n o p b (numbersOf c)))
-  line-refused = refused-line u l r n o p b (numbersOf c) s k hs hk
-
-  pub line-done : (x : Access) (next : Ppu) (b′ f′ : List ℕ) → k ≡ 0 → state next (lineMemory l r n o p b′ f′) ≡ oneLine (state u (lineMemory l r n o p b (numbersOf c)))
-      → x ≡ access (doneAnswer 0 1 next) next → lineOutcome x l r n o p b′ f′ ≡ onLent (lineCall own) (state u (lineMemory l r n o p b (numbersOf c)))
-  line-done = done-line u l r n o p b (numbersOf c) s k hs hk
-
-  pub run-refused : (x : Access) (why most : ℕ) → (k ≡ 0 → ⊥) → x ≡ refusedAccess k u
+  pub run-refused : (x : Access) (why most : ℕ) → why ≤ 2 → (k ≡ 0 → ⊥) → x ≡ refusedAccess k u
       → lineOutcome x l r n o p b (numbersOf c) ≡ onLent (runCall own why most) (state u (lineMemory l r n o p b (numbersOf c)))
-  run-refused = refused-run u l r n o p b (numbersOf c) s k hs hk
+  run-refused x why most g = refused-run u l r n o p b (numbersOf c) s k hs hk why most g x
 
-  pub run-nmi : (x : Outcome) (most j : ℕ) → k ≡ 0 → j ≡ nmiCount most u → x ≡ runDone j (state u (lineMemory l r n o p b (numbersOf c)))
-      → x ≡ onLent (runCall own 1 most) (state u (lineMemory l r n o p b (numbersOf c)))
-  run-nmi = done-nmi u l r n o p b (numbersOf c) s k hs hk
-
-  pub run-plain : (x : Access) (next : Ppu) (b′ f′ : List ℕ) (most : ℕ) → k ≡ 0 → state next (lineMemory l r n o p b′ f′) ≡ linesRun most (state u (lineMemory l r n o p b (numbersOf c)))
-      → x ≡ access (doneAnswer 0 most next) next → lineOutcome x l r n o p b′ f′ ≡ onLent (runCall own 0 most) (state u (lineMemory l r n o p b (numbersOf c)))
-  run-plain = done-plain u l r n o p b (numbersOf c) s k hs hk
+  pub run-done : (x : Access) (why most : ℕ) (next : Ppu) (b′ f′ : List ℕ) (j : ℕ) (met : Bool) → why ≤ 2 → k ≡ 0
+      → IsRun why most (state u (lineMemory l r n o p b (numbersOf c))) j met (state next (lineMemory l r n o p b′ f′))
+      → x ≡ access (ranAnswer j met next) next → lineOutcome x l r n o p b′ f′ ≡ onLent (runCall own why most) (state u (lineMemory l r n o p b (numbersOf c)))
+  run-done x why most next b′ f′ j met g = done-run u l r n o p b (numbersOf c) s k hs hk why most g x next b′ f′ j met
 
 -- THE COLOURS AS NUMBERS f: refused by their length, or the call on bytes that are these numbers
 last-not : (a c : Bool) → false ≡ a && (c && false)
@@ -108,34 +88,33 @@ last-not true true = refl
 last-not true false = refl
 last-not false c = refl
 
-module _ (u : Ppu) (l r n o p b f : List ℕ) (k : ℕ) (hk : k ≡ plainRefusal false u) (h : length f ≡ 256 → ⊥) (x : Access) (ex : x ≡ refusedAccess k u) where
-  short : false ≡ lineSizes (u .board) (length l) (length r) (length n) (length o) (length p) (length b) (length f)
-  short = rw (ne-eqb (length f) 256 h) (last-not (accessSizes (u .board) (length l) (length r) (length n) (length o) (length p)) (eqb (length b) 256))
+pub run-short : (u : Ppu) (l r n o p b f : List ℕ) (k : ℕ) (why most : ℕ) (x : Access) → k ≡ plainRefusal false u → why ≤ 2 → (length f ≡ 256 → ⊥) → x ≡ refusedAccess k u
+    → lineOutcome x l r n o p b f ≡ onLent (runCall own why most) (state u (lineMemory l r n o p b f))
+run-short u l r n o p b f k why most x hk g h ex = refused-run u l r n o p b f false k short hk why most g x is-2 ex
+  where
+    short : false ≡ lineSizes (u .board) (length l) (length r) (length n) (length o) (length p) (length b) (length f)
+    short = rw (ne-eqb (length f) 256 h) (last-not (accessSizes (u .board) (length l) (length r) (length n) (length o) (length p)) (eqb (length b) 256))
 
-  is-2 : k ≡ 0 → ⊥
-  unfolding plainRefusal order
-  is-2 z = let e : k ≡ 2 = hk in omega (arith, e, z)
-
-  pub line-short : lineOutcome x l r n o p b f ≡ onLent (lineCall own) (state u (lineMemory l r n o p b f))
-  line-short = refused-line u l r n o p b f false k short hk x is-2 ex
-
-  pub run-short : (why most : ℕ) → lineOutcome x l r n o p b f ≡ onLent (runCall own why most) (state u (lineMemory l r n o p b f))
-  run-short why most = refused-run u l r n o p b f false k short hk x why most is-2 ex
+    is-2 : k ≡ 0 → ⊥
+    is-2 z = let e : k ≡ 2 = hk ∙ (unfold plainRefusal order in refl) in omega (arith, e, z)
 
 pub numbers-done : (c : Call) (u : Ppu) (a : Access) (l r n o p b b′ f f′ g g′ : List ℕ) → numbersOf g ≡ f → f′ ≡ numbersOf g′
     → lineOutcome a l r n o p b′ (numbersOf g′) ≡ onLent c (state u (lineMemory l r n o p b (numbersOf g))) → lineOutcome a l r n o p b′ f′ ≡ onLent c (state u (lineMemory l r n o p b f))
 numbers-done c u a l r n o p b b′ f f′ g g′ e e′ h = rw (e′, ← e) h
 
-pub ruleset numbers-cases = (line-short, run-short, numbers-done)
+pub ruleset numbers-cases = (run-unknown, run-short, numbers-done)
 
-module _ (u : Ppu) (s : Bool) (k : ℕ) (hk : k ≡ plainRefusal s u) (h : k ≡ 0) where
-  pub line-formed : isWellFormed u ≡ true
-  unfolding plainRefusal
-  line-formed = order-formed _ _ _ _ _ (sym hk ∙ h)
+pub line-formed : (u : Ppu) (s : Bool) (k : ℕ) → k ≡ plainRefusal s u → k ≡ 0 → isWellFormed u ≡ true
+unfolding plainRefusal
+line-formed u s k hk h = order-formed _ _ _ _ _ (sym hk ∙ h)
 
-  pub line-next : u .scanline < 262
-  line-next = good-of u line-formed .scanline
+pub ruleset run-cases = (run-unknown, run-refused)
 
-pub ruleset line-cases = (line-refused, line-done)
-
-pub ruleset run-cases = (run-refused, run-nmi, run-plain)
+-- A RUN OF ONE LINE from 240 on, whatever is lent
+pub blank-run : (u next : Ppu) (why : ℕ) (m : Bool) (x : Access) → 239 < u .scanline → m ≡ (eqb why 1 && (bit 128 (u .control) && eqb (u .scanline) 241)) → next ≡ blankUnit u
+    → x ≡ access (ranAnswer 1 m next) next → (l r n o p b f : List ℕ) → lineOutcome x l r n o p b f ≡ done (runCall own why 1) (state u (lineMemory l r n o p b f))
+blank-run u next why m x h em en ex l r n o p b f =
+    let s : State = state u (lineMemory l r n o p b f) in
+    let line : state next (lineMemory l r n o p b f) ≡ oneLine s = unfold oneLine in rw (en, le-ltb (u .scanline) 240 (omega arith)) in
+    let off : ltb (u .scanline) 240 && isRendering u ≡ false = rw (le-ltb (u .scanline) 240 (omega arith)) in
+    ran-is why 1 s next l r n o p b f 1 m x (one-run why s (state next (lineMemory l r n o p b f)) m line (em ∙ sym (meets-undrawn s why off))) ex

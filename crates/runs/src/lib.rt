@@ -1,18 +1,19 @@
-// Public calls on a unit by value that run lines: line, run, run_all; and the same with the colours lent as bytes, for C, which do the
-// work: line_bytes, run_bytes, run_all_bytes. None has a `requires`: a call refuses what it cannot take, 2 then 3,
-// and a refused call leaves the unit and every lent memory as they were. Within: run_done.
+// The public call on a unit by value that runs lines: run. It has no `requires`: it refuses what it cannot take, 5 then 2 then 3, and a refused call
+// leaves the unit and every lent memory as they were. Within, the same for C, with the colours lent as bytes: run_bytes, which does the work; for
+// one line line_bytes, and blank_line where it is one from 240 on.
 ghost use mathlib.Core.Path.{_≡_};
-ghost use mathlib.Core.Bool.{true};
-ghost use Rattle.model.specs.Unit.{state, lineMemory, isWellFormed};
+ghost use mathlib.Core.List.{List};
+ghost use Prim.Native.Nat.{ℕ, _<_};
+ghost use Rattle.model.specs.Unit.{state, lineMemory};
 ghost use Rattle.model.specs.Colours.{numbersOf};
-ghost use Rattle.model.specs.Calls.{lineOutcome, onLent, lineCall, runCall, runDone, own};
-ghost use Rattle.scanline.specs.Shown.{RunLengths};
+ghost use Rattle.model.specs.Calls.{lineOutcome, onLent, runCall, done, own};
 use model::Access;
 use model::Ppu;
 
-// One line: 256 pixel numbers and their colours on lines 0 to 239, and the unit after it.
+// A run of one line.
 pub fn line_bytes(
     u: Ppu,
+    reason: u8,
     left: &[u8],
     right: &[u8],
     nametables: &[u8],
@@ -22,8 +23,11 @@ pub fn line_bytes(
     colours: &mut [u8],
 ) -> Access
     ensures { λ r. ⌜ lineOutcome r (now (left .entry)) (now (right .entry)) (now (nametables .entry)) (now (oam .entry)) (now (palette .entry)) (now (line .exit)) (numbersOf (now (colours .exit))) ≡
-        onLent (lineCall own) (state u (lineMemory (now (left .entry)) (now (right .entry)) (now (nametables .entry)) (now (oam .entry)) (now (palette .entry)) (now (line .entry)) (numbersOf (now (colours .entry))))) ⌝ }
+        onLent (runCall own reason 1) (state u (lineMemory (now (left .entry)) (now (right .entry)) (now (nametables .entry)) (now (oam .entry)) (now (palette .entry)) (now (line .entry)) (numbersOf (now (colours .entry))))) ⌝ }
 {
+    if 2 < reason {
+        return unit::refused(5, u);
+    }
     let board = u.board;
     let sized = refusals::line_sizes(
         board,
@@ -33,63 +37,43 @@ pub fn line_bytes(
         oam.len(),
         palette.len(),
         line.len(),
-        memory_pairs::count(colours.len()),
+        colours.len(),
     );
     let n = refusals::plain_refusal(sized, u);
     if n != 0 {
         return unit::refused(n, u);
     }
-    let next = scanline::one_line(u, left, right, nametables, oam, palette, line, colours);
-    unit::done(0, 1, next)
+    let r = scanline::one_line(
+        u,
+        reason,
+        left,
+        right,
+        nametables,
+        oam,
+        palette,
+        line,
+        colours,
+    );
+    let next = r.unit;
+    unit::ran(r.lines, r.met, next)
 }
 
-// The same, the colours as numbers.
-pub fn line(
-    u: Ppu,
-    left: &[u8],
-    right: &[u8],
-    nametables: &[u8],
-    oam: &[u8],
-    palette: &[u8],
-    line: &mut [u8],
-    colours: &mut [u16],
-) -> Access
-    ensures { λ r. ⌜ lineOutcome r (now (left .entry)) (now (right .entry)) (now (nametables .entry)) (now (oam .entry)) (now (palette .entry)) (now (line .exit)) (now (colours .exit)) ≡
-        onLent (lineCall own) (state u (lineMemory (now (left .entry)) (now (right .entry)) (now (nametables .entry)) (now (oam .entry)) (now (palette .entry)) (now (line .entry)) (now (colours .entry)))) ⌝ }
+// One line from 240 on, accepted: it touches nothing that is lent.
+pub fn blank_line(u: Ppu, reason: u8) -> Access
+    requires { ⌜ (239 < u .scanline) × (u .scanline < 262) ⌝ }
+    ensures { λ x. ⌜ ((l r n o p b f : List ℕ) → lineOutcome x l r n o p b f ≡ done (runCall own reason 1) (state u (lineMemory l r n o p b f))) ⌝ }
 {
-    if colours.len() != 256 {
-        return unit::refused(refusals::plain_refusal(false, u), u);
-    }
-    let mut bytes = [0u8; 512];
-    memory_pairs::put(colours, &mut bytes);
-    let a = line_bytes(u, left, right, nametables, oam, palette, line, &mut bytes);
-    memory_pairs::take(&bytes, colours);
-    a
+    let met = lines::meets_nmi(reason, u.control, u.scanline);
+    let next = lines::blank_line(u);
+    unit::ran(1, met, next)
 }
 
-// k lines, accepted.
-fn run_done(
-    u: Ppu,
-    k: u16,
-    left: &[u8],
-    right: &[u8],
-    nametables: &[u8],
-    oam: &[u8],
-    palette: &[u8],
-    line: &mut [u8],
-    colours: &mut [u8],
-) -> Access
-    requires { ⌜ RunLengths (u .board) (now left) (now right) (now nametables) (now oam) (now palette) (now line) (now colours) × (isWellFormed u ≡ true) ⌝ }
-    ensures { λ r. ⌜ lineOutcome r (now (left .entry)) (now (right .entry)) (now (nametables .entry)) (now (oam .entry)) (now (palette .entry)) (now (line .exit)) (numbersOf (now (colours .exit))) ≡ runDone k (state u (lineMemory (now (left .entry)) (now (right .entry)) (now (nametables .entry)) (now (oam .entry)) (now (palette .entry)) (now (line .entry)) (numbersOf (now (colours .entry))))) ⌝ }
-{
-    let next = scanline::run(u, k, left, right, nametables, oam, palette, line, colours);
-    unit::done(0, k, next)
-}
-
-// At most `lines` lines; with control bit 7 the run stops early after line 241. It reports how many lines it ran.
+// At most `lines` lines, up to the one that meets the reason to stop: 0 none, 1 NMI, 2 status bit 6 from 0 to 1. It reports how many lines it
+// ran, and whether the reason was met.
 pub fn run_bytes(
     u: Ppu,
     lines: u16,
+    reason: u8,
     left: &[u8],
     right: &[u8],
     nametables: &[u8],
@@ -99,8 +83,11 @@ pub fn run_bytes(
     colours: &mut [u8],
 ) -> Access
     ensures { λ r. ⌜ lineOutcome r (now (left .entry)) (now (right .entry)) (now (nametables .entry)) (now (oam .entry)) (now (palette .entry)) (now (line .exit)) (numbersOf (now (colours .exit))) ≡
-        onLent (runCall own 1 lines) (state u (lineMemory (now (left .entry)) (now (right .entry)) (now (nametables .entry)) (now (oam .entry)) (now (palette .entry)) (now (line .entry)) (numbersOf (now (colours .entry))))) ⌝ }
+        onLent (runCall own reason lines) (state u (lineMemory (now (left .entry)) (now (right .entry)) (now (nametables .entry)) (now (oam .entry)) (now (palette .entry)) (now (line .entry)) (numbersOf (now (colours .entry))))) ⌝ }
 {
+    if 2 < reason {
+        return unit::refused(5, u);
+    }
     let board = u.board;
     let sized = refusals::line_sizes(
         board,
@@ -110,20 +97,33 @@ pub fn run_bytes(
         oam.len(),
         palette.len(),
         line.len(),
-        memory_pairs::count(colours.len()),
+        colours.len(),
     );
     let n = refusals::plain_refusal(sized, u);
     if n != 0 {
         return unit::refused(n, u);
     }
-    let k = lines::nmi_count(u, lines);
-    run_done(u, k, left, right, nametables, oam, palette, line, colours)
+    let r = scanline::run(
+        u,
+        lines,
+        reason,
+        left,
+        right,
+        nametables,
+        oam,
+        palette,
+        line,
+        colours,
+    );
+    let next = r.unit;
+    unit::ran(r.lines, r.met, next)
 }
 
 // The same, the colours as numbers.
 pub fn run(
     u: Ppu,
     lines: u16,
+    reason: u8,
     left: &[u8],
     right: &[u8],
     nametables: &[u8],
@@ -133,8 +133,11 @@ pub fn run(
     colours: &mut [u16],
 ) -> Access
     ensures { λ r. ⌜ lineOutcome r (now (left .entry)) (now (right .entry)) (now (nametables .entry)) (now (oam .entry)) (now (palette .entry)) (now (line .exit)) (now (colours .exit)) ≡
-        onLent (runCall own 1 lines) (state u (lineMemory (now (left .entry)) (now (right .entry)) (now (nametables .entry)) (now (oam .entry)) (now (palette .entry)) (now (line .entry)) (now (colours .entry)))) ⌝ }
+        onLent (runCall own reason lines) (state u (lineMemory (now (left .entry)) (now (right .entry)) (now (nametables .entry)) (now (oam .entry)) (now (palette .entry)) (now (line .entry)) (now (colours .entry)))) ⌝ }
 {
+    if 2 < reason {
+        return unit::refused(5, u);
+    }
     if colours.len() != 256 {
         return unit::refused(refusals::plain_refusal(false, u), u);
     }
@@ -143,75 +146,7 @@ pub fn run(
     let a = run_bytes(
         u,
         lines,
-        left,
-        right,
-        nametables,
-        oam,
-        palette,
-        line,
-        &mut bytes,
-    );
-    memory_pairs::take(&bytes, colours);
-    a
-}
-
-// Just so many lines, with no early stop: a run of the log.
-pub fn run_all_bytes(
-    u: Ppu,
-    n: u16,
-    left: &[u8],
-    right: &[u8],
-    nametables: &[u8],
-    oam: &[u8],
-    palette: &[u8],
-    line: &mut [u8],
-    colours: &mut [u8],
-) -> Access
-    ensures { λ r. ⌜ lineOutcome r (now (left .entry)) (now (right .entry)) (now (nametables .entry)) (now (oam .entry)) (now (palette .entry)) (now (line .exit)) (numbersOf (now (colours .exit))) ≡
-        onLent (runCall own 0 n) (state u (lineMemory (now (left .entry)) (now (right .entry)) (now (nametables .entry)) (now (oam .entry)) (now (palette .entry)) (now (line .entry)) (numbersOf (now (colours .entry))))) ⌝ }
-{
-    let board = u.board;
-    let sized = refusals::line_sizes(
-        board,
-        left.len(),
-        right.len(),
-        nametables.len(),
-        oam.len(),
-        palette.len(),
-        line.len(),
-        memory_pairs::count(colours.len()),
-    );
-    let k = refusals::plain_refusal(sized, u);
-    if k != 0 {
-        return unit::refused(k, u);
-    }
-    let next = scanline::run_all(u, n, left, right, nametables, oam, palette, line, colours);
-    unit::done(0, n, next)
-}
-
-// The same, the colours as numbers.
-pub fn run_all(
-    u: Ppu,
-    lines: u16,
-    left: &[u8],
-    right: &[u8],
-    nametables: &[u8],
-    oam: &[u8],
-    palette: &[u8],
-    line: &mut [u8],
-    colours: &mut [u16],
-) -> Access
-    ensures { λ r. ⌜ lineOutcome r (now (left .entry)) (now (right .entry)) (now (nametables .entry)) (now (oam .entry)) (now (palette .entry)) (now (line .exit)) (now (colours .exit)) ≡
-        onLent (runCall own 0 lines) (state u (lineMemory (now (left .entry)) (now (right .entry)) (now (nametables .entry)) (now (oam .entry)) (now (palette .entry)) (now (line .entry)) (now (colours .entry)))) ⌝ }
-{
-    if colours.len() != 256 {
-        return unit::refused(refusals::plain_refusal(false, u), u);
-    }
-    let mut bytes = [0u8; 512];
-    memory_pairs::put(colours, &mut bytes);
-    let a = run_all_bytes(
-        u,
-        lines,
+        reason,
         left,
         right,
         nametables,

@@ -1,31 +1,32 @@
 -- The ways of each function, for `search`.
-use Prim.Native.Nat.{ℕ, _+_, _<_, _≤_}
-use mathlib.Core.Path.{_≡_, refl, sym, ap, _∙_}
-use mathlib.Core.Bool.{Bool, true, false, true≢false, cond, _&&_}
+use Prim.Native.Nat.{ℕ, suc, _+_, _-_, _<_, _≤_}
+use mathlib.Core.Path.{_≡_, refl, sym, ap, _∙_, subst}
+use mathlib.Core.Bool.{Bool, true, false, true≢false, cond, not, _&&_, _||_}
 use mathlib.Core.Logic.{⊎-elim}
 use mathlib.Core.List.{List}
 use native.Mathlib.Omega.{arith}
 use native.Mathlib.Numerals.{add-one}
 use lib.Dec.{ltb, eqb}
 use lib.ListN.{length, getD, List·getD-eq-default}
-use borrow.Author.Tests.{lt-ltb, le-ltb, ltb-true}
+use borrow.Author.Tests.{lt-ltb, le-ltb, ltb-true, ltb-false}
 use Rattle.model.specs.declared.Ppu.{Ppu}
 use Rattle.model.specs.Unit.{unit, withScanline, State, state, lineMemory, lastLine, bit, isRendering, isWellFormed}
 use Rattle.model.specs.Address.{tableOf}
 use Rattle.model.specs.Background.{backgroundAt}
 use Rattle.model.specs.Sprites.{overflows}
 use Rattle.model.specs.Colours.{colourAt, numbersOf}
-use Rattle.model.specs.Line.{tab, anyOf, marked, hitOf, statusOf, pixelOf, picture, drawnUnit, drawnLine, idleLine, vblankLine, preRenderLine, blankUnit, oneLine, linesRun}
+use Rattle.model.specs.Line.{tab, anyOf, marked, hitOf, statusOf, pixelOf, picture, drawnUnit, drawnLine, idleLine, vblankLine, preRenderLine, blankUnit, oneLine, linesRun, meetsReason, lineCount, reasonMet}
 use Rattle.model.proofs.Kept.{well}
 use Rattle.model.proofs.Good.{good-of, line-good}
 use Rattle.model.proofs.Tests.{cond-both}
 use Rattle.model.proofs.Tab.{length-tab, getD-tab}
 use Rattle.model.proofs.Scroll.{lt-or-ge}
 use Rattle.model.proofs.Line.{line-board, pixel-small}
+use Rattle.model.proofs.Runs.{count-suc, met-suc, run-one, meets-drawn, meets-undrawn}
 use Rattle.memory_pairs.specs.Pairs.{always}
 use Rattle.draw_colours.specs.Table.{Table, RunShades, Pixels, shown, fromTable}
 use Rattle.draw_colours.proofs.Cases.{show-is, drawn-colours, blank-colours, table-kept}
-use Rattle.scanline.specs.Shown.{LineLengths, RunLengths, backOf, seen}
+use Rattle.scanline.specs.Shown.{LineLengths, RunLengths, IsRun, backOf, seen}
 use Rattle.scanline.proofs.Laws.{back-1, back-2, drawn-off}
 
 -- the background as shown
@@ -81,7 +82,7 @@ module _ (u : Ppu) (d : Bool) (ed : d ≡ (ltb (u .scanline) 240 && isRendering 
   unfolding isRendering
   drawn-seen = drawn-shown
 
-  pub line-1 : (l r n o p b b′ f f′ : List ℕ) (hit over : Bool) (x : Ppu) → f′ ≡ tab (shown (u .mask) p b′) 256 → b′ ≡ picture (seen (u .control) (u .mask) (u .v) (u .x) (u .scanline) (u .board)) l r n o
+  line-1 : (l r n o p b b′ f f′ : List ℕ) (hit over : Bool) (x : Ppu) → f′ ≡ tab (shown (u .mask) p b′) 256 → b′ ≡ picture (seen (u .control) (u .mask) (u .v) (u .x) (u .scanline) (u .board)) l r n o
       → hit ≡ anyOf (hitOf (seen (u .control) (u .mask) (u .v) (u .x) (u .scanline) (u .board)) l r n o) 256 → over ≡ overflows (u .control) o (u .scanline)
       → ((l r n o : List ℕ) → hit ≡ anyOf (hitOf u l r n o) 256 → over ≡ overflows (u .control) o (u .scanline) → x ≡ drawnUnit u l r n o)
       → state x (lineMemory l r n o p b′ f′) ≡ oneLine (state u (lineMemory l r n o p b f))
@@ -89,6 +90,12 @@ module _ (u : Ppu) (d : Bool) (ed : d ≡ (ltb (u .scanline) 240 && isRendering 
   line-1 l r n o p b b′ f f′ hit over x ef ep eh eo ex =
       let long : length b′ ≡ 256 = ap length ep ∙ length-tab _ 256 in
       rw (drawn-colours u p b′ f′ drawn-shown long ef, ep, ex l r n o eh eo, lt-ltb (u .scanline) 240 drawn-low)
+
+  -- and a run's reason, by what the code found of it
+  met-drawn : (why : ℕ) (l r n o p b f : List ℕ) (hit m : Bool) → hit ≡ anyOf (hitOf (seen (u .control) (u .mask) (u .v) (u .x) (u .scanline) (u .board)) l r n o) 256
+      → m ≡ (eqb why 2 && (not (bit 64 (u .status)) && hit)) → m ≡ meetsReason why u (oneLine (state u (lineMemory l r n o p b f)) .unit)
+  unfolding hitOf
+  met-drawn why l r n o p b f hit m eh em = em ∙ rw eh (sym (meets-drawn (state u (lineMemory l r n o p b f)) why drawn-low drawn-shown))
 
 -- a picture's pixel numbers
 pub picture-pixels : (u : Ppu) (l r n o b : List ℕ) → b ≡ picture u l r n o → Pixels b
@@ -124,9 +131,15 @@ module _ (u x : Ppu) (p b b′ f f′ : List ℕ) (h : ltb (u .scanline) 240 && 
 
 pub ruleset undrawn-cases = (undrawn-1, undrawn-2)
 
-pub line-2 : (u x : Ppu) (p b b′ f f′ l r n o : List ℕ) → ((l r n o : List ℕ) → state x (lineMemory l r n o p b′ f′) ≡ oneLine (state u (lineMemory l r n o p b f)))
-    → state x (lineMemory l r n o p b′ f′) ≡ oneLine (state u (lineMemory l r n o p b f))
-line-2 u x p b b′ f f′ l r n o e = e l r n o
+met-undrawn : (u : Ppu) (why : ℕ) (l r n o p b f : List ℕ) (m : Bool) → ltb (u .scanline) 240 && isRendering u ≡ false
+    → m ≡ (eqb why 1 && (bit 128 (u .control) && eqb (u .scanline) 241)) → m ≡ meetsReason why u (oneLine (state u (lineMemory l r n o p b f)) .unit)
+met-undrawn u why l r n o p b f m h e = e ∙ sym (meets-undrawn (state u (lineMemory l r n o p b f)) why h)
+
+-- A RUN OF ONE LINE
+pub one-run : (why : ℕ) (s t : State) (m : Bool) → t ≡ oneLine s → m ≡ meetsReason why (s .unit) (oneLine s .unit) → IsRun why 1 s 1 m t
+unfolding linesRun
+one-run why s t m e f =
+    record { count = sym (run-one why s .0); reason = f ∙ sym (run-one why s .1); after = e ∙ ap (λ (k : ℕ). linesRun k s) (sym (run-one why s .0)) }
 
 -- a line keeps the mask
 line-mask : (s : State) → oneLine s .unit .mask ≡ s .unit .mask
@@ -136,29 +149,89 @@ line-mask s =
     (cond-both (λ (u : Ppu). u .mask ≡ s .unit .mask) (eqb (s .unit .scanline) 241) (vblankLine (s .unit)) _ refl
     (cond-both (λ (u : Ppu). u .mask ≡ s .unit .mask) (eqb (s .unit .scanline) (lastLine (s .unit .board))) (preRenderLine (s .unit)) (idleLine (s .unit)) refl refl))
 
--- a run: after i lines. The colours are bytes
-pub record Running (l r n o p : List ℕ) (most : ℕ) (u₀ : Ppu) (b₀ f₀ b f : List ℕ) (u : Ppu) (i : ℕ) : Type 0 where
+-- A RUN OF MORE. What is left of it after i lines
+pub record Left (why most : ℕ) (s : State) (i : ℕ) (met : Bool) : Type 0 where
   pub upto : i ≤ most
+  pub count : lineCount why most s ≡ cond met i (lineCount why (most - i) (linesRun i s) + i)
+  pub reason : reasonMet why most s ≡ met || reasonMet why (most - i) (linesRun i s)
+
+module _ (why most : ℕ) (s : State) where
+  left-start : Left why most s 0 false
+  unfolding linesRun
+  left-start =
+      let z : most ≡ most - 0 = omega arith in
+      let k : lineCount why most s ≡ lineCount why most s + 0 = omega arith in
+      record { upto = omega arith; count = k ∙ ap (λ (j : ℕ). lineCount why j s + 0) z; reason = ap (λ (j : ℕ). reasonMet why j s) z }
+
+  left-again : (i : ℕ) (m : Bool) → Left why most s i false → i < most → meetsReason why (linesRun i s .unit) (oneLine (linesRun i s) .unit) ≡ m → Left why most s (i + 1) m
+  unfolding linesRun
+  left-again i m inv lt e =
+      let j : ℕ = most - (i + 1) in
+      let z : most - i ≡ suc j = omega arith in
+      let n : oneLine (linesRun i s) ≡ linesRun (i + 1) s = ap (λ (k : ℕ). linesRun k s) (sym (add-one i)) in
+      record {
+        upto = omega arith;
+        count = inv .count ∙ ap (λ (k : ℕ). lineCount why k (linesRun i s) + i) z ∙ ap (λ (k : ℕ). k + i) (count-suc why j (linesRun i s) m e) ∙ go j m ∙ ap (λ (t : State). cond m (i + 1) (lineCount why j t + (i + 1))) n;
+        reason = inv .reason ∙ ap (λ (k : ℕ). reasonMet why k (linesRun i s)) z ∙ met-suc why j (linesRun i s) m e ∙ ap (λ (t : State). m || reasonMet why j t) n;
+      }
+    where
+      go : (j : ℕ) (x : Bool) → cond x 1 (suc (lineCount why j (oneLine (linesRun i s)))) + i ≡ cond x (i + 1) (lineCount why j (oneLine (linesRun i s)) + (i + 1))
+      go j true = omega arith
+      go j false = omega arith
+
+  left-done : (i : ℕ) (m : Bool) (t : State) → Left why most s i m → not m && ltb i most ≡ false → t ≡ linesRun i s → IsRun why most s i m t
+  unfolding lineCount reasonMet
+  left-done i true t inv h e = record { count = sym (inv .count); reason = sym (inv .reason); after = e ∙ ap (λ (k : ℕ). linesRun k s) (sym (inv .count)) }
+  left-done i false t inv h e =
+      let z : most - i ≡ 0 = omega (arith, ltb-false i most h) in
+      let c : lineCount why most s ≡ i = inv .count ∙ ap (λ (k : ℕ). lineCount why k (linesRun i s) + i) z ∙ omega arith in
+      record { count = sym c; reason = sym (inv .reason ∙ ap (λ (k : ℕ). reasonMet why k (linesRun i s)) z); after = e ∙ ap (λ (k : ℕ). linesRun k s) (sym c) }
+
+-- the loop: after i lines. The colours are bytes
+pub record Running (l r n o p : List ℕ) (why most : ℕ) (u₀ : Ppu) (b₀ f₀ b f : List ℕ) (u : Ppu) (i : ℕ) (met : Bool) : Type 0 where
   pub formed : isWellFormed u ≡ true
   pub mask : u .mask ≡ u₀ .mask
   pub lengths : RunLengths (u .board) l r n o p b f
   pub so-far : state u (lineMemory l r n o p b (numbersOf f)) ≡ linesRun i (state u₀ (lineMemory l r n o p b₀ (numbersOf f₀)))
+  pub left : Left why most (state u₀ (lineMemory l r n o p b₀ (numbersOf f₀))) i met
 
-module _ (l r n o p : List ℕ) (most : ℕ) (u₀ : Ppu) (b₀ f₀ : List ℕ) where
-  pub run-start : isWellFormed u₀ ≡ true → RunLengths (u₀ .board) l r n o p b₀ f₀ → Running l r n o p most u₀ b₀ f₀ b₀ f₀ u₀ 0
-  unfolding linesRun
-  run-start h k = record { upto = omega arith; formed = h; mask = refl; lengths = k; so-far = refl }
+-- it goes on
+pub goes-1 : (i most : ℕ) (met : Bool) → met ≡ false → ltb i most ≡ (not met && ltb i most)
+goes-1 i most met e = rw e
 
-  pub run-again : (b f : List ℕ) (u : Ppu) (i : ℕ) (b′ f′ : List ℕ) (u′ : Ppu) → Running l r n o p most u₀ b₀ f₀ b f u i → i < most
-      → state u′ (lineMemory l r n o p b′ (numbersOf f′)) ≡ oneLine (state u (lineMemory l r n o p b (numbersOf f))) → length b′ ≡ length b → length f′ ≡ length f
-      → Running l r n o p most u₀ b₀ f₀ b′ f′ u′ (i + 1)
+module _ (i most : ℕ) (met g : Bool) (e : g ≡ (not met && ltb i most)) (t : g ≡ true) where
+  on-less : i < most
+  on-less = ltb-true i most (and-parts (not met) (ltb i most) (sym e ∙ t) .1)
+
+  pub on-room : most < 65536 → i + 1 < 65536
+  on-room h = omega (arith, on-less)
+
+  pub on-nearer : most - (i + 1) < most - i
+  on-nearer = omega (arith, on-less)
+
+  on-unmet : met ≡ false
+  on-unmet = go met (and-parts (not met) (ltb i most) (sym e ∙ t) .0)
+    where
+      go : (x : Bool) → not x ≡ true → x ≡ false
+      go true h = absurd (true≢false (sym h))
+      go false h = refl
+
+module _ (l r n o p : List ℕ) (why most : ℕ) (u₀ : Ppu) (b₀ f₀ : List ℕ) where
+  pub run-start : isWellFormed u₀ ≡ true → RunLengths (u₀ .board) l r n o p b₀ f₀ → Running l r n o p why most u₀ b₀ f₀ b₀ f₀ u₀ 0 false
   unfolding linesRun
-  run-again b f u i b′ f′ u′ inv h e k g =
+  run-start h k = record { formed = h; mask = refl; lengths = k; so-far = refl; left = left-start why most _ }
+
+  pub run-again : (b f : List ℕ) (u : Ppu) (i : ℕ) (met g : Bool) (b′ f′ : List ℕ) (u′ : Ppu) (m : Bool) → Running l r n o p why most u₀ b₀ f₀ b f u i met
+      → g ≡ (not met && ltb i most) → g ≡ true → state u′ (lineMemory l r n o p b′ (numbersOf f′)) ≡ oneLine (state u (lineMemory l r n o p b (numbersOf f)))
+      → m ≡ meetsReason why u (oneLine (state u (lineMemory l r n o p b (numbersOf f))) .unit) → length b′ ≡ length b → length f′ ≡ length f
+      → Running l r n o p why most u₀ b₀ f₀ b′ f′ u′ (i + 1) m
+  unfolding linesRun
+  run-again b f u i met g b′ f′ u′ m inv eg tg e em k kf =
       let s : State = state u (lineMemory l r n o p b (numbersOf f)) in
-      let d : u′ ≡ oneLine (state u (lineMemory l r n o p b (numbersOf f))) .unit = ap (λ (s : State). s .unit) e in
+      let s₀ : State = state u₀ (lineMemory l r n o p b₀ (numbersOf f₀)) in
+      let d : u′ ≡ oneLine s .unit = ap (λ (t : State). t .unit) e in
       let board : u′ .board ≡ u .board = ap (λ (w : Ppu). w .board) d ∙ line-board s in
       record {
-        upto = omega arith;
         formed = ap isWellFormed d ∙ well (oneLine s .unit) (line-good s (good-of u (inv .formed)));
         mask = ap (λ (w : Ppu). w .mask) d ∙ line-mask s ∙ inv .mask;
         lengths =
@@ -171,30 +244,59 @@ module _ (l r n o p : List ℕ) (most : ℕ) (u₀ : Ppu) (b₀ f₀ : List ℕ)
                 line = k ∙ inv .lengths .drawn .line;
               };
               palette = inv .lengths .palette;
-              colours = g ∙ inv .lengths .colours;
+              colours = kf ∙ inv .lengths .colours;
             };
-        so-far = e ∙ ap oneLine (inv .so-far) ∙ ap (λ (j : ℕ). linesRun j (state u₀ (lineMemory l r n o p b₀ (numbersOf f₀)))) (sym (add-one i));
+        so-far = e ∙ ap oneLine (inv .so-far) ∙ ap (λ (j : ℕ). linesRun j s₀) (sym (add-one i));
+        left =
+            left-again why most s₀ i m (subst (Left why most s₀ i) (on-unmet i most met g eg tg) (inv .left)) (on-less i most met g eg tg)
+            (sym (em ∙ ap (λ (t : State). meetsReason why (t .unit) (oneLine t .unit)) (inv .so-far)));
       }
 
-  pub run-done : (b f : List ℕ) (u : Ppu) (i : ℕ) → Running l r n o p most u₀ b₀ f₀ b f u i → most ≤ i
-      → state u (lineMemory l r n o p b (numbersOf f)) ≡ linesRun most (state u₀ (lineMemory l r n o p b₀ (numbersOf f₀)))
-  run-done b f u i inv h =
-      let e : i ≡ most = omega (arith, inv .upto) in
-      inv .so-far ∙ ap (λ (j : ℕ). linesRun j (state u₀ (lineMemory l r n o p b₀ (numbersOf f₀)))) e
+  pub run-done : (b f : List ℕ) (u : Ppu) (i : ℕ) (met g : Bool) → Running l r n o p why most u₀ b₀ f₀ b f u i met → g ≡ (not met && ltb i most) → g ≡ false
+      → IsRun why most (state u₀ (lineMemory l r n o p b₀ (numbersOf f₀))) i met (state u (lineMemory l r n o p b (numbersOf f)))
+  run-done b f u i met g inv eg fg = left-done why most _ i met _ (inv .left) (sym eg ∙ fg) (inv .so-far)
 
   -- its table
-  pub run-table : (b f : List ℕ) (u : Ppu) (i : ℕ) (t : List ℕ) → RunShades u₀ p t → Running l r n o p most u₀ b₀ f₀ b f u i → isRendering u ≡ true → Table t
-  run-table b f u i t h inv e = table-kept u₀ p t u h (inv .mask) e .table
+  pub run-table : (b f : List ℕ) (u : Ppu) (i : ℕ) (met : Bool) (t : List ℕ) → RunShades u₀ p t → Running l r n o p why most u₀ b₀ f₀ b f u i met → isRendering u ≡ true → Table t
+  run-table b f u i met t h inv e = table-kept u₀ p t u h (inv .mask) e .table
 
   -- a line more that is drawn
-  pub run-drawn : (b f : List ℕ) (u : Ppu) (i : ℕ) (b′ f′ : List ℕ) (u′ : Ppu) (t : List ℕ) (d hit over : Bool) → RunShades u₀ p t
-      → Running l r n o p most u₀ b₀ f₀ b f u i → i < most → d ≡ (ltb (u .scanline) 240 && isRendering u) → d ≡ true
+  pub run-drawn : (b f : List ℕ) (u : Ppu) (i : ℕ) (met g : Bool) (b′ f′ : List ℕ) (u′ : Ppu) (m : Bool) (t : List ℕ) (d hit over : Bool) → RunShades u₀ p t
+      → Running l r n o p why most u₀ b₀ f₀ b f u i met → g ≡ (not met && ltb i most) → g ≡ true → d ≡ (ltb (u .scanline) 240 && isRendering u) → d ≡ true
       → numbersOf f′ ≡ tab (fromTable t b′) 256 → b′ ≡ picture (seen (u .control) (u .mask) (u .v) (u .x) (u .scanline) (u .board)) l r n o
       → hit ≡ anyOf (hitOf (seen (u .control) (u .mask) (u .v) (u .x) (u .scanline) (u .board)) l r n o) 256 → over ≡ overflows (u .control) o (u .scanline)
+      → m ≡ (eqb why 2 && (not (bit 64 (u .status)) && hit))
       → ((l r n o : List ℕ) → hit ≡ anyOf (hitOf u l r n o) 256 → over ≡ overflows (u .control) o (u .scanline) → u′ ≡ drawnUnit u l r n o)
-      → length b′ ≡ length b → length f′ ≡ length f → Running l r n o p most u₀ b₀ f₀ b′ f′ u′ (i + 1)
-  run-drawn b f u i b′ f′ u′ t d hit over h inv lt ed td ef ep eh eo ex k g =
+      → length b′ ≡ length b → length f′ ≡ length f → Running l r n o p why most u₀ b₀ f₀ b′ f′ u′ (i + 1) m
+  run-drawn b f u i met g b′ f′ u′ m t d hit over h inv eg tg ed td ef ep eh eo em ex k kf =
       let e = show-is (u .mask) p t b′ (numbersOf f′) (table-kept u₀ p t u h (inv .mask) (drawn-shown u d ed td)) (picture-pixels _ l r n o b′ ep) ef in
-      run-again b f u i b′ f′ u′ inv lt (line-1 u d ed td l r n o p b b′ (numbersOf f) (numbersOf f′) hit over u′ e ep eh eo ex) k g
+      run-again b f u i met g b′ f′ u′ m inv eg tg (line-1 u d ed td l r n o p b b′ (numbersOf f) (numbersOf f′) hit over u′ e ep eh eo ex)
+      (met-drawn u d ed td why l r n o p b (numbersOf f) hit m eh em) k kf
 
-pub ruleset run-cases = (run-start, run-again, run-done)
+  -- a line more that is not
+  pub run-undrawn : (b f : List ℕ) (u : Ppu) (i : ℕ) (met g : Bool) (b′ f′ : List ℕ) (u′ : Ppu) (m d : Bool) → Running l r n o p why most u₀ b₀ f₀ b f u i met
+      → g ≡ (not met && ltb i most) → g ≡ true → d ≡ (ltb (u .scanline) 240 && isRendering u) → d ≡ false
+      → m ≡ (eqb why 1 && (bit 128 (u .control) && eqb (u .scanline) 241))
+      → ((l r n o : List ℕ) → state u′ (lineMemory l r n o p b′ (numbersOf f′)) ≡ oneLine (state u (lineMemory l r n o p b (numbersOf f))))
+      → length b′ ≡ length b → length f′ ≡ length f → Running l r n o p why most u₀ b₀ f₀ b′ f′ u′ (i + 1) m
+  run-undrawn b f u i met g b′ f′ u′ m d inv eg tg ed fd em ex k kf =
+      run-again b f u i met g b′ f′ u′ m inv eg tg (ex l r n o) (met-undrawn u why l r n o p b (numbersOf f) m (sym ed ∙ fd) em) k kf
+
+pub ruleset run-cases = (run-start, run-undrawn, run-done)
+
+-- a run of one line, by the way that it is drawn
+module _ (why : ℕ) (u : Ppu) (d : Bool) (ed : d ≡ (ltb (u .scanline) 240 && isRendering u)) (l r n o p b b′ f f′ : List ℕ) (x : Ppu) (m : Bool) where
+  pub one-1 : d ≡ true → (hit over : Bool) → f′ ≡ tab (shown (u .mask) p b′) 256 → b′ ≡ picture (seen (u .control) (u .mask) (u .v) (u .x) (u .scanline) (u .board)) l r n o
+      → hit ≡ anyOf (hitOf (seen (u .control) (u .mask) (u .v) (u .x) (u .scanline) (u .board)) l r n o) 256 → over ≡ overflows (u .control) o (u .scanline)
+      → m ≡ (eqb why 2 && (not (bit 64 (u .status)) && hit))
+      → ((l r n o : List ℕ) → hit ≡ anyOf (hitOf u l r n o) 256 → over ≡ overflows (u .control) o (u .scanline) → x ≡ drawnUnit u l r n o)
+      → IsRun why 1 (state u (lineMemory l r n o p b f)) 1 m (state x (lineMemory l r n o p b′ f′))
+  one-1 t hit over ef ep eh eo em ex =
+      one-run why _ _ m (line-1 u d ed t l r n o p b b′ f f′ hit over x ef ep eh eo ex) (met-drawn u d ed t why l r n o p b f hit m eh em)
+
+  pub one-2 : d ≡ false → m ≡ (eqb why 1 && (bit 128 (u .control) && eqb (u .scanline) 241))
+      → ((l r n o : List ℕ) → state x (lineMemory l r n o p b′ f′) ≡ oneLine (state u (lineMemory l r n o p b f)))
+      → IsRun why 1 (state u (lineMemory l r n o p b f)) 1 m (state x (lineMemory l r n o p b′ f′))
+  one-2 e em ex = one-run why _ _ m (ex l r n o) (met-undrawn u why l r n o p b f m (sym ed ∙ e) em)
+
+pub ruleset one-cases = (one-1, one-2)

@@ -7,10 +7,10 @@ use lib.Dec.{ltb}
 use lib.ListN.{length, getD}
 use Rattle.model.specs.declared.Ppu.{Ppu}
 use Rattle.model.specs.declared.Board.{Board}
-use Rattle.model.specs.Unit.{unit, patternLength, nametableLength, oamLength, paletteLength, lineLength}
+use Rattle.model.specs.Unit.{State, unit, patternLength, nametableLength, oamLength, paletteLength, lineLength}
 use Rattle.model.specs.Background.{backgroundShown}
 use Rattle.model.specs.Sprites.{spriteOn, spriteZeroOn, spriteShown}
-use Rattle.model.specs.Line.{tab, anyOf, merged, backgroundOn}
+use Rattle.model.specs.Line.{tab, anyOf, merged, backgroundOn, linesRun, lineCount, reasonMet}
 
 -- the lengths of what a line is lent
 pub record LineLengths (d : Board) (l r n o b : List ℕ) : Type 0 where
@@ -25,6 +25,12 @@ pub record RunLengths (d : Board) (l r n o p b f : List ℕ) : Type 0 where
   pub drawn : LineLengths d l r n o b
   pub palette : length p ≡ paletteLength
   pub colours : length f ≡ 512
+
+-- a run of at most n lines from s, by its reason to stop: the lines it runs, whether the reason is met, and the state after it
+pub record IsRun (why n : ℕ) (s : State) (lines : ℕ) (met : Bool) (t : State) : Type 0 where
+  pub count : lines ≡ lineCount why n s
+  pub reason : met ≡ reasonMet why n s
+  pub after : t ≡ linesRun (lineCount why n s) s
 
 -- a unit of the parts that a line's pixels and flags depend on, the rest zero
 abbrev pub seen : ℕ → ℕ → ℕ → ℕ → ℕ → Board → Ppu

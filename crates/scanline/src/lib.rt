@@ -1,18 +1,18 @@
 // One line, and runs of lines. Inner functions, not public calls: they require the lengths and the well-formed unit
 // that a call has checked.
 // A drawn line: background_shown, zero_hits, overlay, sprites_on, sprites_shown, draw.
-// Any line: undrawn, one_line. Runs: run, and run_all for a log.
+// Any line: undrawn, one_line. A run: goes_on, run.
 ghost use mathlib.Core.Path.{_≡_};
-ghost use mathlib.Core.Bool.{cond, true, false, _&&_};
+ghost use mathlib.Core.Bool.{cond, true, false, not, _&&_};
 ghost use mathlib.Core.List.{List, []};
 ghost use Prim.Native.Nat.{ℕ, _+_, _-_, _<_, _≤_};
 ghost use lib.Dec.{eqb, ltb};
 ghost use lib.ListN.{length, take};
 ghost use Rattle.model.specs.Unit.{state, lineMemory, lineLength, bit, isRendering, isWellFormed};
 ghost use Rattle.model.specs.Sprites.{covers, placesOf, overflows};
-ghost use Rattle.model.specs.Line.{tab, anyOf, hitOf, picture, oneLine, linesRun};
+ghost use Rattle.model.specs.Line.{tab, anyOf, hitOf, picture, oneLine};
 ghost use Rattle.model.specs.Colours.{numbersOf};
-ghost use Rattle.scanline.specs.Shown.{LineLengths, RunLengths, backOf, overLine, hitLine, seen};
+ghost use Rattle.scanline.specs.Shown.{LineLengths, RunLengths, IsRun, backOf, overLine, hitLine, seen};
 use model::Board;
 use model::Ppu;
 
@@ -20,6 +20,13 @@ use model::Ppu;
 pub struct Flags {
     pub hit: bool,
     pub over: bool,
+}
+
+// What a run comes to: the unit after it, the lines it ran, and whether its reason to stop was met.
+pub struct Ran {
+    pub unit: Ppu,
+    pub lines: u16,
+    pub met: bool,
 }
 
 // How many columns at the left edge are hidden, by the mask bit that shows them.
@@ -189,9 +196,10 @@ fn undrawn(u: Ppu, palette: &[u8], line: &mut [u8], colours: &mut [u8]) -> Ppu
     lines::blank_line(u)
 }
 
-// One line.
+// A run of one line: it needs no loop, and no table unless the line is drawn.
 pub fn one_line(
     u: Ppu,
+    reason: u8,
     left: &[u8],
     right: &[u8],
     nametables: &[u8],
@@ -199,9 +207,10 @@ pub fn one_line(
     palette: &[u8],
     line: &mut [u8],
     colours: &mut [u8],
-) -> Ppu
+) -> Ran
     requires { ⌜ RunLengths (u .board) (now left) (now right) (now nametables) (now oam) (now palette) (now line) (now colours) × (isWellFormed u ≡ true) ⌝ }
-    ensures { λ r. ⌜ state r (lineMemory (now (left .entry)) (now (right .entry)) (now (nametables .entry)) (now (oam .entry)) (now (palette .entry)) (now (line .exit)) (numbersOf (now (colours .exit)))) ≡ oneLine (state u (lineMemory (now (left .entry)) (now (right .entry)) (now (nametables .entry)) (now (oam .entry)) (now (palette .entry)) (now (line .entry)) (numbersOf (now (colours .entry))))) ⌝ }
+    ensures { λ r. ⌜ IsRun reason 1 (state u (lineMemory (now (left .entry)) (now (right .entry)) (now (nametables .entry)) (now (oam .entry)) (now (palette .entry)) (now (line .entry)) (numbersOf (now (colours .entry)))))
+        (r .lines) (r .met) (state (r .unit) (lineMemory (now (left .entry)) (now (right .entry)) (now (nametables .entry)) (now (oam .entry)) (now (palette .entry)) (now (line .exit)) (numbersOf (now (colours .exit))))) ⌝ }
 {
     if lines::draws(u) {
         let board = u.board;
@@ -219,15 +228,38 @@ pub fn one_line(
             line,
         );
         draw_colours::show(u.mask, palette, line, colours);
-        return lines::drawn(u, f.hit, f.over);
+        let met = lines::meets_hit(reason, u.status, f.hit);
+        let next = lines::drawn(u, f.hit, f.over);
+        return Ran {
+            unit: next,
+            lines: 1,
+            met,
+        };
     }
-    undrawn(u, palette, line, colours)
+    let met = lines::meets_nmi(reason, u.control, u.scanline);
+    let next = undrawn(u, palette, line, colours);
+    Ran {
+        unit: next,
+        lines: 1,
+        met,
+    }
 }
 
-// n lines.
+// A run goes on: its reason is not met, and lines are left.
+fn goes_on(i: u16, n: u16, met: bool) -> bool
+    ensures { λ r. ⌜ r ≡ (not met && ltb i n) ⌝ }
+{
+    if met {
+        return false;
+    }
+    i < n
+}
+
+// At most n lines, up to the one that meets the reason to stop.
 pub fn run(
     u: Ppu,
     n: u16,
+    reason: u8,
     left: &[u8],
     right: &[u8],
     nametables: &[u8],
@@ -235,15 +267,17 @@ pub fn run(
     palette: &[u8],
     line: &mut [u8],
     colours: &mut [u8],
-) -> Ppu
+) -> Ran
     requires { ⌜ RunLengths (u .board) (now left) (now right) (now nametables) (now oam) (now palette) (now line) (now colours) × (isWellFormed u ≡ true) ⌝ }
-    ensures { λ r. ⌜ state r (lineMemory (now (left .entry)) (now (right .entry)) (now (nametables .entry)) (now (oam .entry)) (now (palette .entry)) (now (line .exit)) (numbersOf (now (colours .exit)))) ≡ linesRun n (state u (lineMemory (now (left .entry)) (now (right .entry)) (now (nametables .entry)) (now (oam .entry)) (now (palette .entry)) (now (line .entry)) (numbersOf (now (colours .entry))))) ⌝ }
+    ensures { λ r. ⌜ IsRun reason n (state u (lineMemory (now (left .entry)) (now (right .entry)) (now (nametables .entry)) (now (oam .entry)) (now (palette .entry)) (now (line .entry)) (numbersOf (now (colours .entry)))))
+        (r .lines) (r .met) (state (r .unit) (lineMemory (now (left .entry)) (now (right .entry)) (now (nametables .entry)) (now (oam .entry)) (now (palette .entry)) (now (line .exit)) (numbersOf (now (colours .exit))))) ⌝ }
 {
     let mut table = [0u32; 32];
     draw_colours::run_table(u, palette, &mut table);
     let mut next = u;
     let mut i: u16 = 0;
-    while i < n {
+    let mut met = false;
+    while goes_on(i, n, met) {
         i += 1;
         if lines::draws(next) {
             let board = next.board;
@@ -261,55 +295,16 @@ pub fn run(
                 line,
             );
             draw_colours::look_up(&table, line, colours);
+            met = lines::meets_hit(reason, next.status, f.hit);
             next = lines::drawn(next, f.hit, f.over);
             continue;
         }
+        met = lines::meets_nmi(reason, next.control, next.scanline);
         next = undrawn(next, palette, line, colours);
     }
-    next
-}
-
-// The same once more, for a log's run: a function that two exports share stays a call in both, and each would be slower.
-pub fn run_all(
-    u: Ppu,
-    n: u16,
-    left: &[u8],
-    right: &[u8],
-    nametables: &[u8],
-    oam: &[u8],
-    palette: &[u8],
-    line: &mut [u8],
-    colours: &mut [u8],
-) -> Ppu
-    requires { ⌜ RunLengths (u .board) (now left) (now right) (now nametables) (now oam) (now palette) (now line) (now colours) × (isWellFormed u ≡ true) ⌝ }
-    ensures { λ r. ⌜ state r (lineMemory (now (left .entry)) (now (right .entry)) (now (nametables .entry)) (now (oam .entry)) (now (palette .entry)) (now (line .exit)) (numbersOf (now (colours .exit)))) ≡ linesRun n (state u (lineMemory (now (left .entry)) (now (right .entry)) (now (nametables .entry)) (now (oam .entry)) (now (palette .entry)) (now (line .entry)) (numbersOf (now (colours .entry))))) ⌝ }
-{
-    let mut table = [0u32; 32];
-    draw_colours::run_table(u, palette, &mut table);
-    let mut next = u;
-    let mut i: u16 = 0;
-    while i < n {
-        i += 1;
-        if lines::draws(next) {
-            let board = next.board;
-            let f = draw(
-                next.control,
-                next.mask,
-                next.v,
-                next.x,
-                next.scanline,
-                board,
-                left,
-                right,
-                nametables,
-                oam,
-                line,
-            );
-            draw_colours::look_up(&table, line, colours);
-            next = lines::drawn(next, f.hit, f.over);
-            continue;
-        }
-        next = undrawn(next, palette, line, colours);
+    Ran {
+        unit: next,
+        lines: i,
+        met,
     }
-    next
 }

@@ -10,7 +10,7 @@ use Rattle.model.specs.declared.Access.{Access}
 use Rattle.model.specs.Unit.{withV, bit, isRendering, isDrawing, isWellFormed, nmiLevel}
 use Rattle.model.specs.Ports.{stepped}
 use Rattle.model.specs.Scroll.{turn11, rowDown, copySide}
-use Rattle.model.specs.Calls.{answer, access, doneAnswer, lookedAnswer}
+use Rattle.model.specs.Calls.{answer, access, doneAnswer, ranAnswer, lookedAnswer}
 
 pub rendering-1 : (u : Ppu) (k : ℕ) → k ≡ u .mask / 8 % 4 → not (eqb k 0) ≡ isRendering u
 unfolding isRendering
@@ -91,10 +91,13 @@ side-1 t v r a b d ea eb ed e = e ∙ omega arith
 pub ruleset down-cases = (down-1, down-2, down-3, down-4)
 
 -- a call that is done, by the NMI level that the code found
-pub done-1 : (b k : ℕ) (u : Ppu) (n : Bool) (r : Access) → n ≡ nmiLevel u → r ≡ access (answer 0 b k n) u → r ≡ access (doneAnswer b k u) u
-done-1 b k u n r e f = f ∙ rw e
+pub done-1 : (b : ℕ) (u : Ppu) (n : Bool) (r : Access) → n ≡ nmiLevel u → r ≡ access (answer 0 b 0 n) u → r ≡ access (doneAnswer b u) u
+done-1 b u n r e f = f ∙ rw e
 
-pub looked-1 : (k : ℕ) (u : Ppu) (n : Bool) (r : Access) → n ≡ nmiLevel u → r ≡ access (record { number = 0; byte = 0; lines = 0; nmi = n; looked = k }) u → r ≡ access (lookedAnswer k u) u
+pub ran-1 : (k : ℕ) (m : Bool) (u : Ppu) (n : Bool) (r : Access) → n ≡ nmiLevel u → r ≡ access (record { number = 0; byte = 0; lines = k; nmi = n; met = m; looked = 0 }) u → r ≡ access (ranAnswer k m u) u
+ran-1 k m u n r e f = f ∙ rw e
+
+pub looked-1 : (k : ℕ) (u : Ppu) (n : Bool) (r : Access) → n ≡ nmiLevel u → r ≡ access (record { number = 0; byte = 0; lines = 0; nmi = n; met = false; looked = k }) u → r ≡ access (lookedAnswer k u) u
 looked-1 k u n r e f = f ∙ rw e
 
 -- after an access of port 7

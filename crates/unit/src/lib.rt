@@ -1,12 +1,12 @@
 // The unit by itself: Ppu -> Ppu, no memory. Inner functions, not public calls.
 // rendering, drawing, well_formed, nmi; v's steps: row_down, copy_side, and step after an access of port 7;
-// what a call hands back: done, looked, refused.
+// what a call hands back: done, ran, looked, refused.
 ghost use mathlib.Core.Path.{_≡_};
 ghost use Prim.Native.Nat.{_+_, _*_, _/_, _%_, _<_};
 ghost use Rattle.model.specs.Unit.{isRendering, isDrawing, isWellFormed, nmiLevel};
 ghost use Rattle.model.specs.Ports.{stepped};
 ghost use Rattle.model.specs.Scroll.{turn11, rowDown, copySide};
-ghost use Rattle.model.specs.Calls.{access, doneAnswer, lookedAnswer, refusedAccess};
+ghost use Rattle.model.specs.Calls.{access, doneAnswer, ranAnswer, lookedAnswer, refusedAccess};
 use model::Access;
 use model::Answer;
 use model::Ppu;
@@ -116,16 +116,36 @@ pub fn step(u: Ppu) -> Ppu
     }
 }
 
-// A call that is done: its byte, its line count, and the NMI level after it.
-pub fn done(byte: u8, lines: u16, u: Ppu) -> Access
-    ensures { λ r. ⌜ r ≡ access (doneAnswer byte lines u) u ⌝ }
+// A call that is done: its byte, and the NMI level after it.
+pub fn done(byte: u8, u: Ppu) -> Access
+    ensures { λ r. ⌜ r ≡ access (doneAnswer byte u) u ⌝ }
 {
     let level = nmi(u);
     let answer = Answer {
         number: 0,
         byte: byte,
-        lines: lines,
+        lines: 0,
         nmi: level,
+        met: false,
+        looked: 0,
+    };
+    Access {
+        answer: answer,
+        unit: u,
+    }
+}
+
+// A run that is done: the lines it ran, and whether its reason to stop was met.
+pub fn ran(lines: u16, met: bool, u: Ppu) -> Access
+    ensures { λ r. ⌜ r ≡ access (ranAnswer lines met u) u ⌝ }
+{
+    let level = nmi(u);
+    let answer = Answer {
+        number: 0,
+        byte: 0,
+        lines: lines as u32,
+        nmi: level,
+        met: met,
         looked: 0,
     };
     Access {
@@ -144,6 +164,7 @@ pub fn looked(n: u8, u: Ppu) -> Access
         byte: 0,
         lines: 0,
         nmi: level,
+        met: false,
         looked: n,
     };
     Access {
@@ -161,6 +182,7 @@ pub fn refused(number: u8, u: Ppu) -> Access
         byte: 0,
         lines: 0,
         nmi: false,
+        met: false,
         looked: 0,
     };
     Access {

@@ -63,8 +63,10 @@ fn drew(u: Ppu, cell: usize, line: &mut [u8]) -> Ppu
     let oam = [0u8; 256];
     let palette = [0u8; 32];
     let mut colours = [0u16; 256];
-    let a = ppu::line(
+    let a = ppu::run(
         u,
+        1,
+        0,
         &left,
         &right,
         &nametables,
@@ -78,7 +80,7 @@ fn drew(u: Ppu, cell: usize, line: &mut [u8]) -> Ppu
 }
 
 // The lines that a run of at most 262 runs from this line, with control bit 7 set.
-fn ran(scanline: u16) -> u16 {
+fn ran(scanline: u16) -> u32 {
     let mut u = warmed(0);
     u.control = 128;
     u.scanline = scanline;
@@ -92,6 +94,7 @@ fn ran(scanline: u16) -> u16 {
     let a = ppu::run(
         u,
         262,
+        1,
         &left,
         &right,
         &nametables,
@@ -274,8 +277,10 @@ fn shown(mask: u8, v: u16) -> u64 {
     palette[4] = 0x2A;
     let mut line = [0u8; 256];
     let mut colours = [0u16; 256];
-    ppu::line(
+    ppu::run(
         u,
+        1,
+        0,
         &left,
         &right,
         &nametables,
@@ -319,8 +324,10 @@ fn overflow(oam: &[u8]) -> u64 {
     let palette = [0u8; 32];
     let mut line = [0u8; 256];
     let mut colours = [0u16; 256];
-    let a = ppu::line(
+    let a = ppu::run(
         u,
+        1,
+        0,
         &left,
         &right,
         &nametables,

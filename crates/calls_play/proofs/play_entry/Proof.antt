@@ -6,7 +6,7 @@ use Rattle.calls_play.proofs.play_entry.Reads as reads
 use Rattle.calls_play.proofs.play_entry.Lts as lts
 use Rattle.accesses.proofs.write.Reads as write-reads
 use Rattle.calls_play.proofs.read.Reads as read-reads
-use Rattle.runs.proofs.run_all.Reads as run-all-reads
+use Rattle.runs.proofs.run.Reads as run-reads
 use Rattle.unit.proofs.refused.Reads as refused-reads
 
 enum-known-e : tie.Need-enum-known-e
@@ -24,8 +24,8 @@ write-requires c κs = search needs
 enum-known-e-3 : tie.Need-enum-known-e-3
 enum-known-e-3 c = search needs
 
-run-all-requires : tie.Need-run-all-requires
-run-all-requires c κs = search needs
+run-requires : tie.Need-run-requires
+run-requires c κs = search needs
 
 enum-told : tie.Need-enum-told
 enum-told c = search needs
@@ -105,7 +105,7 @@ play-entry-spec =
     enum-known-e-2
     write-requires
     enum-known-e-3
-    run-all-requires
+    run-requires
     enum-told
     refused-requires
     same-length

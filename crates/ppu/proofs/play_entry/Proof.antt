@@ -6,7 +6,7 @@ use Rattle.ppu.proofs.play_entry.Reads as reads
 use Rattle.ppu.proofs.play_entry.Lts as lts
 use Rattle.ppu.proofs.ppu_write.Reads as ppu-write-reads
 use Rattle.ppu.proofs.read_record.Reads as read-record-reads
-use Rattle.ppu.proofs.run_all_record.Reads as run-all-record-reads
+use Rattle.ppu.proofs.run_record.Reads as run-record-reads
 
 enum-known-e : tie.Need-enum-known-e
 enum-known-e c = search needs
@@ -23,8 +23,8 @@ ppu-write-requires c κs = search needs
 enum-known-e-3 : tie.Need-enum-known-e-3
 enum-known-e-3 c = search needs
 
-run-all-record-requires : tie.Need-run-all-record-requires
-run-all-record-requires c κs = search needs
+run-record-requires : tie.Need-run-record-requires
+run-record-requires c κs = search needs
 
 enum-told : tie.Need-enum-told
 enum-told c = search needs
@@ -110,7 +110,7 @@ play-entry-spec =
     enum-known-e-2
     ppu-write-requires
     enum-known-e-3
-    run-all-record-requires
+    run-record-requires
     enum-told
     same-length
     same-length-2

@@ -1,47 +1,17 @@
-use Rattle.model.proofs.Accepted.{form-long}
 use Rattle.ppu.proofs.Cases.{run-cases}
 use borrow.Author.Needs.{needs}
 use Rattle.ppu.proofs.ppu_run.Statement.{statement}
 use Rattle.ppu.proofs.ppu_run.Tie as tie
 use Rattle.ppu.proofs.ppu_run.Reads as reads
 use Rattle.ppu.proofs.ppu_run.Lts as lts
-use Rattle.memory_pairs.proofs.count.Reads as count-reads
-use Rattle.record.proofs.read_unit.Reads as read-unit-reads
-use Rattle.refusals.proofs.finish.Reads as finish-reads
-use Rattle.refusals.proofs.line_sizes.Reads as line-sizes-reads
-use Rattle.refusals.proofs.record_refusal.Reads as record-refusal-reads
-use Rattle.refusals.proofs.zero_board.Reads as zero-board-reads
-use Rattle.runs.proofs.run_bytes.Reads as run-bytes-reads
+use Rattle.ppu.proofs.line_record.Reads as line-record-reads
+use Rattle.ppu.proofs.run_record.Reads as run-record-reads
 
-zero-board-requires : tie.Need-zero-board-requires
-zero-board-requires c κs = search needs
-
-count-requires : tie.Need-count-requires
-count-requires c κs = search needs
-
-line-sizes-requires : tie.Need-line-sizes-requires
-line-sizes-requires c κs = search needs
-
-record-refusal-requires : tie.Need-record-refusal-requires
-record-refusal-requires c κs = search needs
-
-cast-result : tie.Need-cast-result
-cast-result c = search needs
+line-record-requires : tie.Need-line-record-requires
+line-record-requires c κs = search needs
 
 same-length : tie.Need-same-length
 same-length c = search needs
-
-returns : tie.Need-returns
-returns c = search run-cases
-
-read-unit-requires : tie.Need-read-unit-requires
-read-unit-requires c κs = search form-long
-
-run-bytes-requires : tie.Need-run-bytes-requires
-run-bytes-requires c κs = search needs
-
-finish-requires : tie.Need-finish-requires
-finish-requires c κs = search needs
 
 same-length-2 : tie.Need-same-length-2
 same-length-2 c = search needs
@@ -49,27 +19,35 @@ same-length-2 c = search needs
 same-length-3 : tie.Need-same-length-3
 same-length-3 c = search needs
 
+returns : tie.Need-returns
+returns c = search run-cases
+
+run-record-requires : tie.Need-run-record-requires
+run-record-requires c κs = search needs
+
 same-length-4 : tie.Need-same-length-4
 same-length-4 c = search needs
 
+same-length-5 : tie.Need-same-length-5
+same-length-5 c = search needs
+
+same-length-6 : tie.Need-same-length-6
+same-length-6 c = search needs
+
 returns-2 : tie.Need-returns-2
-returns-2 c = search run-cases
+returns-2 c = search needs
 
 pub ppu-run-spec : {M : Type 1} → statement M
 ppu-run-spec =
     tie.close
     (tie.spec
-    zero-board-requires
-    count-requires
-    line-sizes-requires
-    record-refusal-requires
-    cast-result
+    line-record-requires
     same-length
-    returns
-    read-unit-requires
-    run-bytes-requires
-    finish-requires
     same-length-2
     same-length-3
+    returns
+    run-record-requires
     same-length-4
+    same-length-5
+    same-length-6
     returns-2)

@@ -10,14 +10,20 @@ use Rattle.refusals.proofs.plain_refusal.Reads as plain-refusal-reads
 use Rattle.runs.proofs.run_bytes.Reads as run-bytes-reads
 use Rattle.unit.proofs.refused.Reads as refused-reads
 
-plain-refusal-requires : tie.Need-plain-refusal-requires
-plain-refusal-requires c κs = search needs
-
 refused-requires : tie.Need-refused-requires
 refused-requires c κs = search needs
 
 returns : tie.Need-returns
 returns c = search numbers-cases
+
+plain-refusal-requires : tie.Need-plain-refusal-requires
+plain-refusal-requires c κs = search needs
+
+refused-requires-2 : tie.Need-refused-requires-2
+refused-requires-2 c κs = search needs
+
+returns-2 : tie.Need-returns-2
+returns-2 c = search numbers-cases
 
 slice-aggregate-put : tie.Need-slice-aggregate-put
 slice-aggregate-put c = search needs
@@ -43,16 +49,18 @@ same-length c = search needs
 same-length-2 : tie.Need-same-length-2
 same-length-2 c = search needs
 
-returns-2 : tie.Need-returns-2
-returns-2 c = search numbers-cases
+returns-3 : tie.Need-returns-3
+returns-3 c = search numbers-cases
 
 pub run-spec : {M : Type 1} → statement M
 run-spec =
     tie.close
     (tie.spec
-    plain-refusal-requires
     refused-requires
     returns
+    plain-refusal-requires
+    refused-requires-2
+    returns-2
     slice-aggregate-put
     put-requires
     slice-aggregate-run-bytes
@@ -61,4 +69,4 @@ run-spec =
     take-requires
     same-length
     same-length-2
-    returns-2)
+    returns-3)

@@ -1,24 +1,14 @@
-use Rattle.runs.proofs.Cases.{run-cases, line-long, line-formed, line-next}
+use Rattle.runs.proofs.Cases.{run-cases, run-done, line-long, line-formed}
 use borrow.Author.Needs.{needs}
 use Rattle.runs.proofs.run_bytes.Statement.{statement}
 use Rattle.runs.proofs.run_bytes.Tie as tie
 use Rattle.runs.proofs.run_bytes.Reads as reads
 use Rattle.runs.proofs.run_bytes.Lts as lts
-use Rattle.lines.proofs.nmi_count.Reads as nmi-count-reads
-use Rattle.memory_pairs.proofs.count.Reads as count-reads
 use Rattle.refusals.proofs.line_sizes.Reads as line-sizes-reads
 use Rattle.refusals.proofs.plain_refusal.Reads as plain-refusal-reads
-use Rattle.runs.proofs.run_done.Reads as run-done-reads
+use Rattle.scanline.proofs.run.Reads as run-reads
+use Rattle.unit.proofs.ran.Reads as ran-reads
 use Rattle.unit.proofs.refused.Reads as refused-reads
-
-count-requires : tie.Need-count-requires
-count-requires c κs = search needs
-
-line-sizes-requires : tie.Need-line-sizes-requires
-line-sizes-requires c κs = search needs
-
-plain-refusal-requires : tie.Need-plain-refusal-requires
-plain-refusal-requires c κs = search needs
 
 refused-requires : tie.Need-refused-requires
 refused-requires c κs = search needs
@@ -26,12 +16,24 @@ refused-requires c κs = search needs
 returns : tie.Need-returns
 returns c = search run-cases
 
-nmi-count-requires : tie.Need-nmi-count-requires
-nmi-count-requires c κs = search line-next
+line-sizes-requires : tie.Need-line-sizes-requires
+line-sizes-requires c κs = search needs
 
-run-done-requires : tie.Need-run-done-requires
-run-done-requires c κs =
-    (line-long _ _ _ _ _ _ _ _ _ _ _ (c .before .before .before .before .before .before .count .ensures) (c .before .before .before .before .before .line-sizes .ensures) (c .before .before .before .before .plain-refusal .ensures) (c .before .before .before .if1 .left), search line-formed)
+plain-refusal-requires : tie.Need-plain-refusal-requires
+plain-refusal-requires c κs = search needs
+
+refused-requires-2 : tie.Need-refused-requires-2
+refused-requires-2 c κs = search needs
+
+returns-2 : tie.Need-returns-2
+returns-2 c = search run-cases
+
+run-requires : tie.Need-run-requires
+run-requires c κs =
+    (line-long _ _ _ _ _ _ _ _ _ _ (c .before .before .before .before .line-sizes .ensures) (c .before .before .before .plain-refusal .ensures) (c .before .before .if2 .left), search line-formed)
+
+ran-requires : tie.Need-ran-requires
+ran-requires c κs = search needs
 
 same-length : tie.Need-same-length
 same-length c = search needs
@@ -39,20 +41,29 @@ same-length c = search needs
 same-length-2 : tie.Need-same-length-2
 same-length-2 c = search needs
 
-returns-2 : tie.Need-returns-2
-returns-2 c = search run-cases
+returns-3 : tie.Need-returns-3
+returns-3 c =
+    run-done _ _ _ _ _ _ _ _ _ _
+    (c .before .before .before .before .before .before .before .before .before .before .before .line-sizes .ensures)
+    (c .before .before .before .before .before .before .before .before .before .before .plain-refusal .ensures)
+    _ _ _ _ _ _ _ _
+    (c .before .before .before .before .before .before .before .before .before .before .before .before .before .if1 .left)
+    (c .before .before .before .before .before .before .before .before .before .if2 .left)
+    (c .before .before .before .before .before .before .run .ensures)
+    (c .ran .ensures)
 
 pub run-bytes-spec : {M : Type 1} → statement M
 run-bytes-spec =
     tie.close
     (tie.spec
-    count-requires
-    line-sizes-requires
-    plain-refusal-requires
     refused-requires
     returns
-    nmi-count-requires
-    run-done-requires
+    line-sizes-requires
+    plain-refusal-requires
+    refused-requires-2
+    returns-2
+    run-requires
+    ran-requires
     same-length
     same-length-2
-    returns-2)
+    returns-3)

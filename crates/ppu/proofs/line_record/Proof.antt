@@ -1,0 +1,103 @@
+use Rattle.ppu.proofs.Cases.{run-cases, run-3, blank-small}
+use Rattle.model.proofs.Accepted.{form-long}
+use borrow.Author.Needs.{needs}
+use Rattle.ppu.proofs.line_record.Statement.{statement}
+use Rattle.ppu.proofs.line_record.Tie as tie
+use Rattle.ppu.proofs.line_record.Reads as reads
+use Rattle.ppu.proofs.line_record.Lts as lts
+use Rattle.record.proofs.read_unit.Reads as read-unit-reads
+use Rattle.refusals.proofs.finish.Reads as finish-reads
+use Rattle.refusals.proofs.line_sizes.Reads as line-sizes-reads
+use Rattle.refusals.proofs.record_refusal.Reads as record-refusal-reads
+use Rattle.refusals.proofs.zero_board.Reads as zero-board-reads
+use Rattle.runs.proofs.blank_line.Reads as blank-line-reads
+use Rattle.runs.proofs.line_bytes.Reads as line-bytes-reads
+
+returns : tie.Need-returns
+returns c = search run-cases
+
+zero-board-requires : tie.Need-zero-board-requires
+zero-board-requires c κs = search needs
+
+line-sizes-requires : tie.Need-line-sizes-requires
+line-sizes-requires c κs = search needs
+
+record-refusal-requires : tie.Need-record-refusal-requires
+record-refusal-requires c κs = search needs
+
+cast-result : tie.Need-cast-result
+cast-result c = search needs
+
+same-length : tie.Need-same-length
+same-length c = search needs
+
+returns-2 : tie.Need-returns-2
+returns-2 c = search run-cases
+
+read-unit-requires : tie.Need-read-unit-requires
+read-unit-requires c κs = search form-long
+
+blank-line-requires : tie.Need-blank-line-requires
+blank-line-requires c κs = (search needs, search blank-small)
+
+finish-requires : tie.Need-finish-requires
+finish-requires c κs = search needs
+
+same-length-2 : tie.Need-same-length-2
+same-length-2 c = search needs
+
+returns-3 : tie.Need-returns-3
+returns-3 c = search run-cases
+
+line-bytes-requires : tie.Need-line-bytes-requires
+line-bytes-requires c κs = search needs
+
+finish-requires-2 : tie.Need-finish-requires-2
+finish-requires-2 c κs = search needs
+
+same-length-3 : tie.Need-same-length-3
+same-length-3 c = search needs
+
+same-length-4 : tie.Need-same-length-4
+same-length-4 c = search needs
+
+same-length-5 : tie.Need-same-length-5
+same-length-5 c = search needs
+
+returns-4 : tie.Need-returns-4
+returns-4 c =
+    run-3 _ _ _ _ _ _ _ _ _ _ _
+    (c .before .before .before .before .before .before .before .before .before .before .before .before .before .before .before .before .before .before .before .before .if1 .left)
+    _ _ _
+    (c .before .before .before .before .before .before .before .before .before .before .before .before .before .before .before .before .before .before .before .zero-board .ensures)
+    (c .before .before .before .before .before .before .before .before .before .before .before .before .before .before .before .before .before .before .line-sizes .ensures)
+    (c .before .before .before .before .before .before .before .before .before .before .before .before .before .before .before .before .record-refusal .ensures)
+    _ _ _ _ _
+    (c .before .before .before .before .before .before .before .before .before .before .before .before .before .before .before .if2 .left)
+    (c .before .before .before .before .before .before .before .before .before .before .before .before .before .read-unit .ensures)
+    (c .before .before .before .before .before .before .before .before .line-bytes .ensures)
+    (c .before .before .finish2 .ensures .1)
+    (c .before .before .finish2 .ensures .0)
+
+pub line-record-spec : {M : Type 1} → statement M
+line-record-spec =
+    tie.close
+    (tie.spec
+    returns
+    zero-board-requires
+    line-sizes-requires
+    record-refusal-requires
+    cast-result
+    same-length
+    returns-2
+    read-unit-requires
+    blank-line-requires
+    finish-requires
+    same-length-2
+    returns-3
+    line-bytes-requires
+    finish-requires-2
+    same-length-3
+    same-length-4
+    same-length-5
+    returns-4)
