@@ -2,7 +2,7 @@
      bench time ROUNDS   ns, the least of so many rounds; in a round the drawers take turns
      bench count         does each piece of work once for each drawer, with a call of `mark` before each: for callgrind
    First all drawers do every piece of work, and before times are taken a thousand lines with crowded OAM. The program fails if two of them differ
-   in a pixel, a colour, a record, a byte of memory, or the answer of a line or a search. What the archive before does otherwise is only told. */
+   in a pixel, a colour, a record, a byte of memory, or the answer of a run or a search. What the archive before does otherwise is only told. */
 #define _POSIX_C_SOURCE 199309L
 #include <stdio.h>
 #include <stdlib.h>
@@ -17,30 +17,40 @@
 #define UNIT m.unit, sizeof m.unit
 #define OAM m.oam, sizeof m.oam
 
+/* the reason to stop that the runs of a piece of work have */
+static uint8_t reason;
+
+/* At most n lines by one drawer. An archive from before request 3 takes no reason: one line is the same by each, and a run is one up to NMI. */
+static inline uint64_t run(const Drawer *d, unsigned n)
+{
+    if (!d->old_run)
+        return d->run(UNIT, (uint16_t)n, reason, TABLES, PALETTE, LINE);
+    if (n == 1)
+        return d->old_line(UNIT, TABLES, PALETTE, LINE);
+    return d->old_run(UNIT, (uint16_t)n, TABLES, PALETTE, LINE);
+}
+
 /* PASSES: a pass does a piece of work by one drawer and gives the number of calls, or lines; 0 if the drawer does not have the call */
 typedef unsigned Pass(const Drawer *);
 
-static unsigned draw_lines(const Drawer *d)
+/* a screen's lines in calls of n; a call that asks for more than they are must stop after the last of them */
+static inline unsigned draw(const Drawer *d, unsigned n)
 {
     unsigned done = 0;
     for (; done < 240; done += lines) {
         memcpy(m.unit, start, sizeof start);
-        for (unsigned i = 0; i < lines; i++)
-            d->line(UNIT, TABLES, PALETTE, LINE);
+        for (unsigned i = 0; i < lines; i += n)
+            run(d, n);
     }
     return done;
 }
 
-/* the same in one call for all of a screen's lines */
-static unsigned draw_frames(const Drawer *d)
-{
-    unsigned done = 0;
-    for (; done < 240; done += lines) {
-        memcpy(m.unit, start, sizeof start);
-        d->run(UNIT, (uint16_t)lines, TABLES, PALETTE, LINE);
-    }
-    return done;
-}
+static unsigned draw_lines(const Drawer *d) { return draw(d, 1); }
+static unsigned draw_frames(const Drawer *d) { return draw(d, lines); }
+
+/* The run that waits for the hit is asked for a whole frame; to compare, the others are asked for the lines up to the hit. */
+static unsigned hit_asks(void) { return reason == PPU_UNTIL_HIT ? 262 : lines; }
+static unsigned draw_to_hit(const Drawer *d) { return d->old_run && reason == PPU_UNTIL_HIT ? 0 : draw(d, hit_asks()); }
 
 /* ten pictures in calls of n lines */
 static unsigned run_lines(const Drawer *d, unsigned n)
@@ -48,7 +58,7 @@ static unsigned run_lines(const Drawer *d, unsigned n)
     unsigned all = n > 2620 ? n : 2620;
     memcpy(m.unit, start, sizeof start);
     for (unsigned done = 0; done < all; done += n)
-        d->run(UNIT, (uint16_t)n, TABLES, PALETTE, LINE);
+        run(d, n);
     return all;
 }
 
@@ -60,7 +70,7 @@ static unsigned run_26200(const Drawer *d) { return run_lines(d, 26200); }
 static unsigned run_none(const Drawer *d)
 {
     for (int i = 0; i < 1000; i++)
-        d->run(UNIT, 0, TABLES, PALETTE, LINE);
+        run(d, 0);
     return 1000;
 }
 
@@ -69,7 +79,7 @@ static unsigned blank_lines(const Drawer *d)
     for (int i = 0; i < 50; i++) {
         set_word(m.unit, PPU_AT_NEXT_LINE, 242);
         for (int k = 0; k < 18; k++)
-            d->line(UNIT, TABLES, PALETTE, LINE);
+            run(d, 1);
     }
     return 50 * 18;
 }
@@ -145,86 +155,139 @@ static unsigned plays(const Drawer *d, const uint8_t *record)
 static unsigned play_read(const Drawer *d) { return plays(d, (const uint8_t[]){ 0, 0x20, 0x02, 0 }); }
 static unsigned play_write(const Drawer *d) { return plays(d, (const uint8_t[]){ 1, 0x20, 0x07, 0x55 }); }
 
-/* WORK: how memory stands before it, and its pass. Calls are made with the screen off, so that none is refused; a search has the screen of its name.
-   Runs are only ours. */
+/* a log's run of n lines, from a screen's first on */
+static unsigned play_run(const Drawer *d, unsigned n)
+{
+    const uint8_t record[PPU_LOG_RECORD_LENGTH] = { 2, 0, (uint8_t)n, 0 };
+    for (unsigned i = 0; i < 480 / n; i++) {
+        memcpy(m.unit, start, sizeof start);
+        d->play(UNIT, record, sizeof record, TABLES, PALETTE, LINE);
+    }
+    return 480 / n;
+}
+
+static unsigned play_1(const Drawer *d) { return play_run(d, 1); }
+static unsigned play_20(const Drawer *d) { return play_run(d, 20); }
+
+/* WORK: how memory stands before it, its pass, and the reason to stop of its runs. Calls are made with the screen off, so that none is refused; a
+   search and a log's run have the screen of their name. Runs by their length and by their reason are the archives' only. */
 typedef struct {
     const char *name;
     void (*set)(void);
     Pass *pass;
+    uint8_t reason;
 } Work;
 
-#define ALL_SCREENS(pass) \
-    { "off", screen_off, pass }, \
-    { "off, backdrop override", backdrop_override, pass }, \
-    { "background only", background_only, pass }, \
-    { "text", text, pass }, \
-    { "about three sprites a line", three_sprites, pass }, \
-    { "eight sprites a line", eight_sprites, pass }, \
-    { "eight of 8x16 a line, flipped", tall_sprites, pass }, \
-    { "eight first, the rest $FF", eight_first, pass }, \
-    { "eight last, the rest $FF", eight_last, pass }, \
-    { "nine first, the rest $FF", nine_first, pass }, \
-    { "random", random_screen, pass }
+static void set_up(const Work *w)
+{
+    w->set();
+    reason = w->reason;
+}
 
-static const Work screens[] = { ALL_SCREENS(draw_lines) };
-static const Work frames[] = { ALL_SCREENS(draw_frames) };
+#define ALL_SCREENS(pass, reason) \
+    { "off", screen_off, pass, reason }, \
+    { "off, backdrop override", backdrop_override, pass, reason }, \
+    { "background only", background_only, pass, reason }, \
+    { "text", text, pass, reason }, \
+    { "about three sprites a line", three_sprites, pass, reason }, \
+    { "eight sprites a line", eight_sprites, pass, reason }, \
+    { "eight of 8x16 a line, flipped", tall_sprites, pass, reason }, \
+    { "eight first, the rest $FF", eight_first, pass, reason }, \
+    { "eight last, the rest $FF", eight_last, pass, reason }, \
+    { "nine first, the rest $FF", nine_first, pass, reason }, \
+    { "random", random_screen, pass, reason }
+
+static const Work screens[] = { ALL_SCREENS(draw_lines, PPU_RUN_ALL) };
+static const Work frames[] = { ALL_SCREENS(draw_frames, PPU_UNTIL_NMI) };
+
+#define CALL(name, set, pass) { name, set, pass, PPU_RUN_ALL }
 
 static const Work calls[] = {
-    { "`ppu_run` of 0 lines", screen_off, run_none },
-    { "`ppu_line` on lines 242 to 259", screen_off, blank_lines },
-    { "`ppu_read` of port 2", screen_off, read_status },
-    { "`ppu_read` of port 7", screen_off, read_data },
-    { "`ppu_write` to port 5", screen_off, write_scroll },
-    { "`ppu_write` to port 7", screen_off, write_data },
-    { "`ppu_write` to port 4", screen_off, write_oam },
-    { "`ppu_dma`, OAMADDR 0", screen_off, dma_from_0 },
-    { "`ppu_dma`, OAMADDR 37", screen_off, dma_from_37 },
-    { "`ppu_search`, fewer than eight in range", random_screen, searches },
-    { "`ppu_search`, eight first, the rest $FF", eight_first, searches },
-    { "`ppu_search`, eight last, the rest $FF", eight_last, searches },
-    { "`ppu_play` of a read of port 2", screen_off, play_read },
-    { "`ppu_play` of a write to port 7", screen_off, play_write },
+    CALL("`ppu_run` of 0 lines", screen_off, run_none),
+    CALL("`ppu_run` of 1 line on lines 242 to 259", screen_off, blank_lines),
+    CALL("`ppu_read` of port 2", screen_off, read_status),
+    CALL("`ppu_read` of port 7", screen_off, read_data),
+    CALL("`ppu_write` to port 5", screen_off, write_scroll),
+    CALL("`ppu_write` to port 7", screen_off, write_data),
+    CALL("`ppu_write` to port 4", screen_off, write_oam),
+    CALL("`ppu_dma`, OAMADDR 0", screen_off, dma_from_0),
+    CALL("`ppu_dma`, OAMADDR 37", screen_off, dma_from_37),
+    CALL("`ppu_search`, fewer than eight in range", random_screen, searches),
+    CALL("`ppu_search`, eight first, the rest $FF", eight_first, searches),
+    CALL("`ppu_search`, eight last, the rest $FF", eight_last, searches),
+    CALL("`ppu_play` of a read of port 2", screen_off, play_read),
+    CALL("`ppu_play` of a write to port 7", screen_off, play_write),
+    CALL("`ppu_play` of 1 line, blank", vertical_blank, play_1),
+    CALL("`ppu_play` of 20 lines, blank", vertical_blank, play_20),
+    CALL("`ppu_play` of 1 line, background only", background_only, play_1),
+    CALL("`ppu_play` of 20 lines, background only", background_only, play_20),
 };
 
 static const Work runs[] = {
-    { "1", three_sprites, run_1 },
-    { "262", three_sprites, run_262 },
-    { "2,620", three_sprites, run_2620 },
-    { "26,200", three_sprites, run_26200 },
+    { "1", three_sprites, run_1, PPU_UNTIL_NMI },
+    { "262", three_sprites, run_262, PPU_UNTIL_NMI },
+    { "2,620", three_sprites, run_2620, PPU_UNTIL_NMI },
+    { "26,200", three_sprites, run_26200, PPU_UNTIL_NMI },
 };
 
-enum { SCREENS = sizeof screens / sizeof *screens, CALLS = sizeof calls / sizeof *calls, RUNS = sizeof runs / sizeof *runs };
+#define BY_REASON(name, set, pass) \
+    { name ", `PPU_RUN_ALL`", set, pass, PPU_RUN_ALL }, \
+    { name ", `PPU_UNTIL_NMI`", set, pass, PPU_UNTIL_NMI }, \
+    { name ", `PPU_UNTIL_HIT`", set, pass, PPU_UNTIL_HIT }
+
+static const Work reasons[] = {
+    BY_REASON("1 line: 245, mask on", blank_on, draw_lines),
+    BY_REASON("1 line: 245, mask off", blank_off, draw_lines),
+    BY_REASON("1 line: off", screen_off, draw_lines),
+    BY_REASON("1 line: background only", background_only, draw_lines),
+    BY_REASON("1 line: about three sprites", three_sprites, draw_lines),
+    BY_REASON("1 line: eight sprites", eight_sprites, draw_lines),
+    BY_REASON("262 lines: about three sprites a line", whole_frame, draw_frames),
+    BY_REASON("up to the hit: about three sprites a line", up_to_hit, draw_to_hit),
+};
+
+#define COUNT(work) sizeof work / sizeof *work
+enum { SCREENS = COUNT(screens), CALLS = COUNT(calls), RUNS = COUNT(runs), REASONS = COUNT(reasons) };
 
 /* THE DRAWERS AGREE */
-static void differ(const Work *w, const Drawer *d, unsigned line)
+static void fail(const Work *w, const Drawer *d, const char *how, unsigned line)
 {
-    fprintf(stderr, "bench: %s and %s differ: %s, line %u\n", drawers[0].name, d->name, w->name, line);
+    fprintf(stderr, "bench: %s %s: %s, line %u\n", d->name, how, w->name, line);
     exit(1);
 }
 
-/* the memory after a line of a screen, or after a whole pass, and the search on that line of the picture */
+/* the lines that a call of a pass asks for, 0 for a pass that has no such call */
+static unsigned asks(const Work *w)
+{
+    return w->pass == draw_lines ? 1 : w->pass == draw_frames ? lines : w->pass == draw_to_hit ? hit_asks() : 0;
+}
+
+/* the memory after one such call, or after a whole pass, and the search on a line of the picture; a pass counts on what its call ran */
 static void agree_on(const Work *w, unsigned line)
 {
     static Machine from, after;
     uint64_t answer = 0, found = 0;
+    unsigned n = asks(w);
     from = m;
     for (int k = 0; k < DRAWERS; k++) {
         m = from;
-        uint64_t given = w->pass == draw_lines ? drawers[k].line(UNIT, TABLES, PALETTE, LINE) : w->pass(&drawers[k]);
+        uint64_t given = n ? run(&drawers[k], n) : w->pass(&drawers[k]);
         uint64_t searched = drawers[k].search(UNIT, (uint16_t)line, OAM);
+        if (n && ppu_lines(given) != (n < lines ? n : lines))
+            fail(w, &drawers[k], "stops elsewhere", line);
         if (k == 0) {
             after = m;
             answer = given;
             found = searched;
         } else if (given != answer || searched != found || memcmp(&m, &after, sizeof m))
-            differ(w, &drawers[k], line);
+            fail(w, &drawers[k], "differs from the archive", line);
     }
 }
 
 static void agree(const Work *w)
 {
     unsigned steps = w->pass == draw_lines ? 240 : 1;
-    w->set();
+    set_up(w);
     memcpy(m.unit, start, sizeof start);
     for (unsigned i = 0; i < steps; i++)
         agree_on(w, i);
@@ -233,7 +296,7 @@ static void agree(const Work *w)
 /* lines with so many bytes of OAM about them that the eighth sprite, and the one that sets the bit, stand anywhere */
 static void agree_crowded(const Work *w)
 {
-    w->set();
+    set_up(w);
     for (unsigned i = 0; i < 1000; i++) {
         unsigned line = any(240), rare = 1 + any(40);
         for (unsigned k = 0; k < sizeof m.oam; k++)
@@ -267,7 +330,7 @@ static void print_search(const Work *w)
     memcpy(m.unit, start, sizeof start);
     for (unsigned line = start[PPU_AT_NEXT_LINE], end = line + lines; line < end; line++) {
         m.unit[PPU_AT_STATUS] = 0;
-        ppu_line(UNIT, TABLES, PALETTE, LINE);
+        ppu_run(UNIT, 1, PPU_RUN_ALL, TABLES, PALETTE, LINE);
         if (m.unit[PPU_AT_STATUS] & 0x20) {
             set++;
             looked += ppu_looked(ppu_search(UNIT, (uint16_t)line, OAM));
@@ -304,10 +367,10 @@ static void compare_line(const Work *w)
     static Machine from, after;
     m.unit[PPU_AT_STATUS] = 0;
     from = m;
-    drawers[0].line(UNIT, TABLES, PALETTE, LINE);
+    run(&drawers[0], 1);
     after = m;
     m = from;
-    unsigned number = ppu_number(drawers[BEFORE_AT].line(UNIT, TABLES, PALETTE, LINE));
+    unsigned number = ppu_number(run(&drawers[BEFORE_AT], 1));
     if (number != PPU_DONE) {
         fprintf(stderr, "bench: the archive before gives %u: %s\n", number, w->name);
         exit(1);
@@ -323,7 +386,7 @@ static void compare_line(const Work *w)
 static void print_moved(void)
 {
     for (int i = 0; i < SCREENS; i++) {
-        screens[i].set();
+        set_up(&screens[i]);
         memcpy(m.unit, start, sizeof start);
         for (unsigned k = 0; k < lines; k++)
             compare_line(&screens[i]);
@@ -338,14 +401,22 @@ static void print_moved(void)
 /* TIME */
 /* the least that each piece of work took; 0 where a drawer cannot do it */
 static double of_screens[SCREENS][MEASURED], of_frames[SCREENS][MEASURED], of_calls[CALLS][MEASURED], of_runs[RUNS][MEASURED];
+static double of_reasons[REASONS][MEASURED];
+
+/* those who do a piece of work: all, or the archives alone */
+enum { ALL, ARCHIVES };
+
+static int takes_part(int k, int who) { return who == ALL || k == 0 || k >= DRAWERS; }
 
 /* A long pass is timed by the processor time of this process, which leaves out what others took of it meanwhile. */
-static void time_rounds(const Work *work, int count, double (*into)[MEASURED], int by, int rounds, clockid_t clock)
+static void time_rounds(const Work *work, int count, double (*into)[MEASURED], int who, int rounds, clockid_t clock)
 {
     for (int i = 0; i < count; i++) {
-        work[i].set();
+        set_up(&work[i]);
         for (int r = 0; r <= rounds; r++)
-            for (int k = 0; k < by; k++) {
+            for (int k = 0; k < MEASURED; k++) {
+                if (!takes_part(k, who))
+                    continue;
                 double before = now(clock);
                 unsigned n = work[i].pass(&drawers[k]);
                 double each = (now(clock) - before) / n;
@@ -417,6 +488,17 @@ static void print_runs(double (*ns)[MEASURED])
     printf("\nn lines cost n times a line: taken as %.1f ns, it fits all of them within %.1f %%.\n", (most + least) / 2, 100 * (most - least) / (most + least));
 }
 
+/* a row for what is run, a column for each reason */
+static void print_reasons(double (*ns)[MEASURED])
+{
+    printf("\nns a line of `ppu_run`, by its reason to stop\n\n");
+    printf("| lines of a call | `PPU_RUN_ALL` | `PPU_UNTIL_NMI` | `PPU_UNTIL_HIT` |\n|---|---|---|---|\n");
+    for (int i = 0; i < REASONS; i += 3) {
+        const char *name = reasons[i].name;
+        printf("| %.*s | %.1f | %.1f | %.1f |\n", (int)(strstr(name, ", `") - name), name, ns[i][0], ns[i + 1][0], ns[i + 2][0]);
+    }
+}
+
 static void print_before(const char *title, const char *first, const Work *work, int count, double (*ns)[MEASURED])
 {
     printf("\n%s, before and after\n\n| %s | before | after | after / before | difference |\n|---|---|---|---|---|\n", title, first);
@@ -434,10 +516,11 @@ static void time_block(int block, int rounds)
 {
     volatile char room[1 + 400 * block];
     (void)room;
-    time_rounds(screens, SCREENS, of_screens, MEASURED, rounds, CLOCK_MONOTONIC);
-    time_rounds(frames, SCREENS, of_frames, MEASURED, rounds, CLOCK_MONOTONIC);
-    time_rounds(calls, CALLS, of_calls, MEASURED, rounds, CLOCK_MONOTONIC);
-    time_rounds(runs, RUNS, of_runs, 1, 2 + rounds / 20, CLOCK_PROCESS_CPUTIME_ID);
+    time_rounds(screens, SCREENS, of_screens, ALL, rounds, CLOCK_MONOTONIC);
+    time_rounds(frames, SCREENS, of_frames, ALL, rounds, CLOCK_MONOTONIC);
+    time_rounds(calls, CALLS, of_calls, ALL, rounds, CLOCK_MONOTONIC);
+    time_rounds(reasons, REASONS, of_reasons, ARCHIVES, rounds, CLOCK_MONOTONIC);
+    time_rounds(runs, RUNS, of_runs, ARCHIVES, 2 + rounds / 20, CLOCK_PROCESS_CPUTIME_ID);
 }
 
 static void time_all(int rounds)
@@ -445,13 +528,15 @@ static void time_all(int rounds)
     for (int block = 0; block < BLOCKS; block++)
         time_block(block, rounds / BLOCKS);
     print_screens("ns a line in runs of a frame, and the ratio of `ppu_run` to the peers", "`ppu_run`", of_frames);
-    print_screens("ns a line, one to a call, and the ratio of `ppu_line` to the peers", "`ppu_line`", of_screens);
+    print_screens("ns a line, one to a call, and the ratio of `ppu_run` to the peers", "`ppu_run`", of_screens);
     print_calls(of_calls);
+    print_reasons(of_reasons);
     print_runs(of_runs);
     print_searches();
     if (HAS_BEFORE) {
         print_before("ns a line in runs of a frame", "screen", frames, SCREENS, of_frames);
         print_before("ns a line, one to a call", "screen", screens, SCREENS, of_screens);
+        print_before("ns a line of `ppu_run`, by its reason to stop", "lines of a call", reasons, REASONS, of_reasons);
         print_before("ns a call", "call", calls, CALLS, of_calls);
         print_moved();
     }
@@ -461,14 +546,14 @@ static void time_all(int rounds)
 void mark(void);
 
 /* what stands on a line by itself of what is printed: the work's kind and name, and the calls or lines that the archive did */
-static void count_all(const char *kind, const Work *work, int count, int by)
+static void count_all(const char *kind, const Work *work, int count, int who)
 {
     for (int i = 0; i < count; i++) {
         unsigned n = 0;
-        work[i].set();
+        set_up(&work[i]);
         mark();
-        for (int k = 0; k < by; k++) {
-            unsigned done = work[i].pass(&drawers[k]);
+        for (int k = 0; k < MEASURED; k++) {
+            unsigned done = takes_part(k, who) ? work[i].pass(&drawers[k]) : 0;
             n = k ? n : done;
         }
         printf("%s\t%s\t%u\n", kind, work[i].name, n);
@@ -482,12 +567,14 @@ int main(int argc, char **argv)
     all_agree(screens, SCREENS);
     all_agree(frames, SCREENS);
     all_agree(calls, CALLS);
+    all_agree(reasons, REASONS);
     all_agree(runs, RUNS - 1);
     if (!strcmp(mode, "count")) {
-        count_all("frame", frames, SCREENS, MEASURED);
-        count_all("screen", screens, SCREENS, MEASURED);
-        count_all("call", calls, CALLS, MEASURED);
-        count_all("run", runs, RUNS, 1);
+        count_all("frame", frames, SCREENS, ALL);
+        count_all("screen", screens, SCREENS, ALL);
+        count_all("call", calls, CALLS, ALL);
+        count_all("reason", reasons, REASONS, ARCHIVES);
+        count_all("run", runs, RUNS, ARCHIVES);
         mark();
         return 0;
     }
@@ -495,7 +582,7 @@ int main(int argc, char **argv)
         fprintf(stderr, "usage: bench time ROUNDS (10 or more), or bench count\n");
         return 2;
     }
-    agree_crowded(&(Work){ "crowded", three_sprites, draw_lines });
+    agree_crowded(&(Work){ "crowded", three_sprites, draw_lines, PPU_RUN_ALL });
     time_all(rounds);
     return 0;
 }

@@ -1,7 +1,7 @@
 # The tables of instructions. First file: the pieces of work in their order, as `bench count` prints them: kind, name, calls or lines.
 # Then callgrind's part for each, with names written out: where a function is called, the line after `calls=` has what the call cost.
-# drawers: ppu plain_gcc table_gcc ..; a drawer's functions are ppu_line, ppu_run, .. A table without work is left out. Those of the archive before,
-# if there is one, are before_line, before_run, .., and have tables of their own.
+# drawers: ppu plain_gcc table_gcc ..; a drawer's functions are ppu_run, ppu_read, .. A table without work is left out. Those of the archive before,
+# if there is one, are before_run, before_read, .. and perhaps before_line, and have tables of their own.
 BEGIN {
     FS = "\t"
     count = split(drawers, drawer, " ")
@@ -54,6 +54,24 @@ function table(which, first, title, by, i, k, head, rule, any) {
             printf "\n"
         }
 }
+# the archive's runs, a row for what is run, a column for each reason, by which the names of three pieces of work end
+function reasons(i, what, last) {
+    for (i = 1; i <= works; i++)
+        if (kind[i] == "reason") {
+            what = name[i]
+            sub(/, `PPU_[A-Z_]*`$/, "", what)
+            if (last == "") {
+                printf "\ninstructions a line of `ppu_run`, by its reason to stop\n\n"
+                printf "| lines of a call | `PPU_RUN_ALL` | `PPU_UNTIL_NMI` | `PPU_UNTIL_HIT` |\n|---|---|---|---|"
+            }
+            if (what != last)
+                printf "\n| %s |", what
+            printf " %.0f |", cost[i, drawer[1]] / units[i]
+            last = what
+        }
+    if (last != "")
+        printf "\n"
+}
 # the archive before and after, on what both can do
 function beside(which, first, title, i, old, new, any) {
     for (i = 1; i <= works; i++)
@@ -70,8 +88,10 @@ END {
     table("screen", "screen", "instructions a line, one to a call", count)
     table("call", "call", "instructions a call", count)
     table("page", "call", "instructions a page", count)
+    reasons()
     table("run", "lines a call", "instructions a line of `ppu_run`, pictures with about three sprites a line", 1)
     beside("frame", "screen", "instructions a line in runs of a frame")
     beside("screen", "screen", "instructions a line, one to a call")
+    beside("reason", "lines of a call", "instructions a line of `ppu_run`, by its reason to stop")
     beside("call", "call", "instructions a call")
 }

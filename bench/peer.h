@@ -11,7 +11,6 @@ typedef uint8_t u8; typedef uint16_t u16; typedef uint32_t u32; typedef uint64_t
 #define ppu_read PEER_CAT(PFX, read)
 #define ppu_write PEER_CAT(PFX, write)
 #define ppu_dma PEER_CAT(PFX, dma)
-#define ppu_line PEER_CAT(PFX, line)
 #define ppu_run PEER_CAT(PFX, run)
 #define ppu_search PEER_CAT(PFX, search)
 #define ppu_play PEER_CAT(PFX, play)

@@ -10,6 +10,7 @@ static inline int ok_board(u8 b){ return b<16 && (b&7)<4; }
 static inline int ok(const u8 *u){
   return !(u[2]&31) && u[5]<128 && u[7]<128 && u[8]<8 && u[9]<2 && (u[12]|u[13]<<8)<262 && u[14]<2 && ok_board(u[15]); }
 #define RET(u,b,c) ((u64)(b)<<8 | (u64)(((u)[0]&(u)[2])>>7)<<16 | (u64)(c)<<32)
+#define MET ((u64)1<<17)
 static inline int drawing(const u8 *u){ int n=u[12]|u[13]<<8; return (u[1]&0x18) && (n<240||n==261); }
 static const u8 pagebit[4]={0x0C,0x0A,0x00,0x0F};   /* bit q: page of quarter q */
 static inline int cell(u8 board,int a){ return (a&1023) | ((pagebit[board&3]>>((a>>10)&3))&1)<<10; }
@@ -167,7 +168,7 @@ static void blank(u8 *line,u8 *c,u16 n){
   u64 w=n*0x0001000100010001u; memset(line,0,256); for(int i=0;i<512;i+=8) memcpy(c+i,&w,8); }
 #endif
 
-/* The table of colours by pixel number. A call makes it once, a single line as a run, and only if it draws. */
+/* The table of colours by pixel number. A call makes it once if the screen is on, a call of one line only if that is drawn. */
 static inline u16 shade(u8 mask,u8 byte){ return (byte&((mask&1)?0x30:0x3F))|(mask>>5)<<6; }
 static inline void mktable(u8 mask,const u8 *p,u16 *restrict t){
   for(int i=0;i<32;i++) t[i]=shade(mask,p[i]);
@@ -182,25 +183,24 @@ static inline void one(u8 *u,const u8 *l,const u8 *r,const u8 *nt,const u8 *o,co
   L= L==261?0:L+1; u[12]=L; u[13]=L>>8;
 }
 #define BAD_LENGTH un!=16||ln!=4096||rn!=4096||nn!=2048||on!=256||pn!=32||bn!=256||cn!=512
-u64 ppu_line(u8 *u,size_t un,const u8 *l,size_t ln,const u8 *r,size_t rn,const u8 *n,size_t nn,const u8 *o,size_t on,const u8 *p,size_t pn,
-             u8 *b,size_t bn,u8 *c,size_t cn){
-  u16 t[32];
-  if(BAD_LENGTH) return 2;
-  if(!ok(u)) return 3;
-  if((u[1]&0x18)&&(u[12]|u[13]<<8)<240) mktable(u[1],p,t);
-  one(u,l,r,n,o,p,t,b,c); return RET(u,0,1);
-}
-static inline void lines(u8 *u,u32 m,const u8 *l,const u8 *r,const u8 *n,const u8 *o,const u8 *p,u8 *b,u8 *c){
-  u16 t[32];
+/* At most m lines; stop has bit 6 if status bit 6 going from 0 to 1 ends them. The answer. One line needs no loop. */
+static inline u64 lines(u8 *u,u32 m,int stop,const u8 *l,const u8 *r,const u8 *n,const u8 *o,const u8 *p,u8 *b,u8 *c){
+  u16 t[32]; u32 k=0; int met=0, was=u[2];
+  if(m==1){
+    if((u[1]&0x18)&&(u[12]|u[13]<<8)<240) mktable(u[1],p,t);
+    one(u,l,r,n,o,p,t,b,c); return RET(u,0,1)|(u[2]&~was&stop?MET:0); }
   if(u[1]&0x18) mktable(u[1],p,t);
-  while(m--) one(u,l,r,n,o,p,t,b,c);
+  while(k<m&&!met){ was=u[2]; one(u,l,r,n,o,p,t,b,c); k++; met=u[2]&~was&stop; }
+  return RET(u,0,k)|(met?MET:0);
 }
-u64 ppu_run(u8 *u,size_t un,u16 m,const u8 *l,size_t ln,const u8 *r,size_t rn,const u8 *n,size_t nn,const u8 *o,size_t on,const u8 *p,size_t pn,
-            u8 *b,size_t bn,u8 *c,size_t cn){
+u64 ppu_run(u8 *u,size_t un,u16 m,u8 why,const u8 *l,size_t ln,const u8 *r,size_t rn,const u8 *n,size_t nn,const u8 *o,size_t on,
+            const u8 *p,size_t pn,u8 *b,size_t bn,u8 *c,size_t cn){
+  u64 met=0;
+  if(why>2) return 5;
   if(BAD_LENGTH) return 2;
   if(!ok(u)) return 3;
-  if(u[0]&128){ int f=(241-(u[12]|u[13]<<8)+262)%262+1; if(f<m) m=f; }
-  lines(u,m,l,r,n,o,p,b,c); return RET(u,0,m);
+  if(why==1&&(u[0]&128)){ int f=(241-(u[12]|u[13]<<8)+262)%262+1; if(f<=m){ m=f; met=MET; } }
+  return lines(u,m,why==2?64:0,l,r,n,o,p,b,c)|met;
 }
 u64 ppu_search(const u8 *u,size_t un,u16 L,const u8 *o,size_t on){
   if(L>239) return 5;
@@ -218,5 +218,5 @@ u64 ppu_play(u8 *u,size_t un,const u8 *g,size_t gn,u8 *l,size_t ln,u8 *r,size_t 
   if(g[0]==1) return ppu_write(u,un,m,g[3],l,ln,r,rn,n,nn,o,on,p,pn);
   if(BAD_LENGTH) return 2;
   if(!ok(u)) return 3;
-  lines(u,m,l,r,n,o,p,b,c); return RET(u,0,m);
+  return lines(u,m,0,l,r,n,o,p,b,c);
 }

@@ -61,6 +61,11 @@ static void backdrop_override(void)
     set_word(start, PPU_AT_V, 0x3F18);
 }
 
+/* lines that draw nothing: one of them, with mask bits 3 and 4 set or clear, and all 20 from the one after NMI on */
+static void blank_on(void) { set_screen(0x10, 0x1E, 245, 1); }
+static void blank_off(void) { set_screen(0x10, 0x00, 245, 1); }
+static void vertical_blank(void) { set_screen(0x10, 0x1E, 242, 20); }
+
 static void background_only(void) { set_screen(0x10, 0x0A, 0, 240); }
 
 /* letters of one colour on an empty ground, one palette, no scroll; sprites are on and none is on the screen */
@@ -84,6 +89,23 @@ static void three_sprites(void)
     for (int i = 0; i < 64; i++)
         set_sprite(i, 24 + any(168), any(4) + 32 * any(2), any(256));
 }
+
+/* The same sprites from the line after NMI on, with NMI on and the hit of the picture before in the status, which line 261 clears. Sprite 0 is
+   opaque all over and covers the lines from y + 1 on, or none. */
+static void from_nmi(unsigned y, unsigned count)
+{
+    three_sprites();
+    start[PPU_AT_CONTROL] |= 0x80;
+    start[PPU_AT_STATUS] = 0xC0;
+    set_word(start, PPU_AT_NEXT_LINE, 242);
+    set_sprite(0, y, 0, 100);
+    memset(m.left + 16 * m.oam[1], 0xFF, 16);
+    lines = count;
+}
+
+/* up to the next NMI, with no hit; up to the hit, through lines 242 to 261 and 0 to 31 */
+static void whole_frame(void) { from_nmi(255, 262); }
+static void up_to_hit(void) { from_nmi(30, 20 + 32); }
 
 /* eight rows of eight, on lines 81 to 144 */
 static void eight_sprites(void)

@@ -69,7 +69,8 @@ static inline void play_record(Play *p)
         memcpy(p->unit, before, sizeof before);
 }
 
-/* The log up to the end of one more line; 0 if it has ended before that. */
+/* The log up to the end of one more line; 0 if it has ended before that. The reason to stop changes nothing of a single line; by it the answer
+   says whether sprite 0 hit on that line. */
 static inline int play_line(Play *p)
 {
     while (!play_ended(p) && p->lines_left == 0)
@@ -78,9 +79,9 @@ static inline int play_line(Play *p)
         return 0;
     unsigned y = play_word(p, PPU_AT_NEXT_LINE);
     p->lines_left--;
-    play_answer(p, ppu_line(p->unit, sizeof p->unit, p->left, sizeof p->left, p->right, sizeof p->right, p->nametables,
-                            sizeof p->nametables, p->oam, sizeof p->oam, p->palette, sizeof p->palette, p->line, sizeof p->line,
-                            p->colours, sizeof p->colours));
+    play_answer(p, ppu_run(p->unit, sizeof p->unit, 1, PPU_UNTIL_HIT, p->left, sizeof p->left, p->right, sizeof p->right, p->nametables,
+                           sizeof p->nametables, p->oam, sizeof p->oam, p->palette, sizeof p->palette, p->line, sizeof p->line, p->colours,
+                           sizeof p->colours));
     if (y < PICTURE_HEIGHT)
         for (unsigned x = 0; x < PICTURE_WIDTH; x++)
             p->picture[y][x] = (uint16_t)ppu_colour(p->colours, x);
@@ -96,6 +97,15 @@ static inline int play_picture(Play *p)
         if (!play_line(p))
             return 0;
     return 1;
+}
+
+/* The log up to the end of the next line on which sprite 0 hits; 0 if it has ended before that. */
+static inline int play_hit(Play *p)
+{
+    while (play_line(p))
+        if (ppu_met(p->answer))
+            return 1;
+    return 0;
 }
 
 #endif

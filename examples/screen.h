@@ -139,9 +139,9 @@ static inline void screen_draw(Screen *s, const Play *p, const char *name, const
     screen_unit(s, 4, p);
     screen_record(s, 19, p);
     screen_text(s, 0, 22, LIVELY, "%s", message);
-    screen_text(s, 0, 23, QUIET, "SPACE PLAY     N PICTURE");
-    screen_text(s, 0, 24, QUIET, "S     SHOT     L LINE");
-    screen_text(s, 0, 25, QUIET, "R     RESTART  Q QUIT");
+    screen_text(s, 0, 23, QUIET, "SPACE PLAY  N PICTURE");
+    screen_text(s, 0, 24, QUIET, "R RESTART   L LINE");
+    screen_text(s, 0, 25, QUIET, "S SHOT      H HIT   Q QUIT");
 }
 
 #endif

@@ -15,8 +15,8 @@ static const char usage[] = "usage: viewer [--scale N] [--palette FILE] [--pause
                             "  --palette FILE     64 colours of 3 bytes, red, green, blue, or 512, 64 for each emphasis, none first\n"
                             "  --paused           waits before the first record\n"
                             "  --until-picture N  plays N pictures, then pauses\n"
-                            "keys: space plays or pauses; n or Right goes on by a picture, l or Down by a line; r starts again;\n"
-                            "      s writes the screen to a BMP file; q or Escape quits\n";
+                            "keys: space plays or pauses; n or Right goes on by a picture, l or Down by a line, h to the next sprite 0 hit;\n"
+                            "      r starts again; s writes the screen to a BMP file; q or Escape quits\n";
 
 typedef struct {
     const char *log, *palette;
@@ -175,6 +175,15 @@ static void write_screen(Viewer *v)
     snprintf(v->message, sizeof v->message, "%s", failed ? "NOT WRITTEN" : name);
 }
 
+/* Up to the line on which sprite 0 hits next; the panel says which. */
+static void play_to_hit(Viewer *v)
+{
+    if (play_hit(&v->play))
+        snprintf(v->message, sizeof v->message, "HIT ON LINE %u", play_word(&v->play, PPU_AT_NEXT_LINE) - 1);
+    else
+        snprintf(v->message, sizeof v->message, "NO HIT BEFORE THE END");
+}
+
 /* What a key does; 0 if it ends the viewer. */
 static int press(Viewer *v, SDL_Keycode key)
 {
@@ -189,6 +198,9 @@ static int press(Viewer *v, SDL_Keycode key)
     } else if (key == SDLK_l || key == SDLK_DOWN) {
         v->playing = 0;
         play_line(&v->play);
+    } else if (key == SDLK_h) {
+        v->playing = 0;
+        play_to_hit(v);
     } else if (key == SDLK_r) {
         play_start(&v->play, v->play.log, v->play.length);
     } else if (key == SDLK_s) {

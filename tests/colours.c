@@ -276,23 +276,23 @@ static void stepped_there(void)
     part("the cell is that of v at the line's beginning: a drawn line that leads v there shows none of it, the next line off does");
 }
 
-/* so many lines, by ppu_run or by a log's record of kind 2 */
-enum { BY_RUN, BY_PLAY, WAYS };
+/* so many lines: by ppu_run with the way for its reason, or by a log's record of kind 2 */
+enum { BY_PLAY = PPU_UNTIL_HIT + 1, WAYS };
 
-static uint64_t lines_by(int way, unsigned lines)
+static uint64_t lines_by(unsigned way, unsigned lines)
 {
     const uint8_t log[4] = { 2, (uint8_t)(lines / 256), (uint8_t)(lines % 256), 0 };
-    return way == BY_RUN ? run_lines(&m, lines) : play_log(&m, log, 4);
+    return way == BY_PLAY ? play_log(&m, log, 4) : run_lines(&m, lines, way);
 }
 
-/* one line by ppu_line, and one and all that are left of the frame by ppu_run and ppu_play */
+/* one line and all that are left of the frame, in each way; control bit 7 is clear and nothing hits there, so that none stops before */
 static void blank_lines(void)
 {
     static const unsigned masks[] = { 0x00, 0xE7, 0x08, 0x10, 0xFF }, places[] = { 0x2134, 0x3F01, 0x7FFF };
     begin();
     for (unsigned line = 240; line < 262; line++)
-        for (unsigned n = 0; n < 5 * 3 * 5; n++) {
-            unsigned way = n / 15, lines = way < 3 ? 1 : 262 - line;
+        for (unsigned n = 0; n < 5 * 3 * 2 * WAYS; n++) {
+            unsigned way = n / 30, lines = n / 15 % 2 ? 262 - line : 1;
             at = (long)(1000 * line + n);
             m.unit[PPU_AT_MASK] = (uint8_t)masks[n % 5];
             set_line(&m, line, 0, 0);
@@ -300,11 +300,11 @@ static void blank_lines(void)
             for (int i = 0; i < 512; i++)
                 m.colours[i] = m.line[i % 256] = (uint8_t)(i * 5 + (int)n);
             copy(&wanted, &m);
-            EXPECT(way == 0 ? one_line(&m) : lines_by(way % 2 ? BY_RUN : BY_PLAY, lines), answer(0, 0, lines));
+            EXPECT(lines_by(way, lines), answer(0, 0, lines));
             for (int i = LEFT; i < BUFFERS; i++)
                 EXPECT_BYTES(*buffer(&m, i), *buffer(&wanted, i), right_lengths[i]);
         }
-    part("lines 240 to 261, by ppu_line, ppu_run and ppu_play: neither buffer is touched, with v in the palette or not");
+    part("lines 240 to 261, by ppu_run with each reason and by ppu_play: neither buffer is touched, with v in the palette or not");
 }
 
 /* a frame, line by line: both buffers after each of lines 0 to 239, and the record before each line */
@@ -331,7 +331,7 @@ static void keep_frame(unsigned mask, unsigned v)
 }
 
 /* a run from this line of the frame leaves that line of it, or 240: what was there before */
-static void expect_left(int way, unsigned from, unsigned lines, unsigned last)
+static void expect_left(unsigned way, unsigned from, unsigned lines, unsigned last)
 {
     spoil_line(&m);
     spoil_line(&wanted);
@@ -356,13 +356,14 @@ static void frames(void)
         scatter(&m, 30);
         keep_frame(kinds[kind][0], kinds[kind][1]);
         for (size_t i = 0; i < sizeof runs / sizeof runs[0]; i++)
-            for (int way = 0; way < WAYS; way++) {
+            for (unsigned way = PPU_RUN_ALL; way < WAYS; way++) {
                 at = 1000 * kind + (long)i;
-                expect_left(way, runs[i][0], runs[i][1], runs[i][2]);
+                if (way != PPU_UNTIL_HIT) /* a hit may cut it short; tests/runs.c */
+                    expect_left(way, runs[i][0], runs[i][1], runs[i][2]);
             }
         EXPECT(memcmp(frame.colours[99], frame.colours[98], 512) != 0, (kinds[kind][0] & 0x18) != 0);
     }
-    part("a run of frames drawn and off, by ppu_run and ppu_play: line and colours are the last of lines 0 to 239 run, as ppu_line leaves them");
+    part("a run of frames drawn and off, by ppu_run and ppu_play: line and colours are the last of lines 0 to 239 run, as it alone leaves them");
 }
 
 /* control bit 7 set: a run that ends early after line 241 leaves line 239 */
@@ -376,7 +377,7 @@ static void early_stop(void)
         spoil_line(&m);
         memcpy(m.unit, frame.unit[from], 16);
         m.unit[PPU_AT_CONTROL] |= 0x80;
-        EXPECT(run_lines(&m, 300), answer(0, 1, (241 + 262 - from) % 262 + 1));
+        EXPECT(run_lines(&m, 300, PPU_UNTIL_NMI), run_answer(1, 1, (241 + 262 - from) % 262 + 1));
         EXPECT_BYTES(m.line, frame.line[239], 256);
         EXPECT_BYTES(m.colours, frame.colours[239], 512);
     }
@@ -395,7 +396,7 @@ static void by_ports(void)
                   { 0x00, 0x05, 0xE7, 0x1F0 }, { 0x3F, 0x1D, 0xE6, 0x1FD }, { 0x3F, 0xFF, 0x66, 0xFF } };
     begin();
     EXPECT(ppu_fresh(m.unit, 16, PPU_VERTICAL), 0);
-    EXPECT(run_lines(&m, 262), answer(0, 0, 262));
+    EXPECT(run_lines(&m, 262, PPU_RUN_ALL), answer(0, 0, 262));
     EXPECT(write_at(&m, 0x2006, 0x3F) + write_at(&m, 0x2006, 0x00), 0);
     for (unsigned i = 0; i < 32; i++)
         EXPECT(write_at(&m, 0x2007, 0x20 + i), 0);

@@ -86,7 +86,7 @@ test_packages() {
 }
 
 test_minimal() {
-    [ "$(wc -l <examples/minimal.c)" -lt 64 ] || fail "examples/minimal.c is no longer short"
+    [ "$(wc -l <examples/minimal.c)" -lt 70 ] || fail "examples/minimal.c is no longer short"
     local compiler
     look minimal >"$out/wanted"
     for compiler in "${compilers[@]}"; do
@@ -95,6 +95,57 @@ test_minimal() {
         cmp "$out/printed" "$out/wanted" || fail "minimal by $compiler prints something else than the reckoning of tests/viewer/window.py"
     done
     say "examples/minimal.c by ${compilers[*]} prints the $(wc -l <"$out/wanted") rows that are reckoned${under[0]:+, under valgrind}"
+}
+
+# altered_split SED: $out/altered is examples/split.c with this change
+altered_split() {
+    sed "$1" examples/split.c >"$out/altered.c"
+    ! cmp -s examples/split.c "$out/altered.c" || fail "examples/split.c has no place for $1"
+    # shellcheck disable=SC2046 # the flags are words
+    "${compilers[0]}" -std=c99 -O1 -iquote examples "$out/altered.c" $(pkg-config --cflags --libs ppu) -o "$out/altered" || fail "examples/split.c with $1"
+}
+
+# split_seen WHERE SED: with this change the picture is another one there, and the reckoning says so
+split_seen() {
+    altered_split "$2"
+    "$out/altered" >"$out/split.ppm" || fail "examples/split.c with $2: no picture"
+    if look split "$out/split.ppm" 100 2>"$out/errors"; then fail "the reckoning does not see $2"; fi
+    grep -q ": $1: " "$out/errors" || fail "examples/split.c with $2, not seen in $1: $(cat "$out/errors")"
+}
+
+# split_ends TEXT SED: with this change it ends with status 1 and this line
+split_ends() {
+    local status=0
+    altered_split "$2"
+    "$out/altered" >"$out/split.ppm" 2>"$out/errors" || status=$?
+    if [ "$status" != 1 ] || [ "$(<"$out/errors")" != "split: $1" ]; then fail "examples/split.c with $2: status $status, $(cat "$out/errors")"; fi
+}
+
+# The split screen against a reckoning, for scrolls into both nametables; the reckoning itself, on pictures that are wrong by a column, by a row, or
+# in the one line that writes of port 5 alone get wrong; and how it ends where a call is refused or nothing hits.
+test_split() {
+    [ "$(wc -l <examples/split.c)" -lt 80 ] || fail "examples/split.c is no longer short"
+    local compiler scroll scrolls=(0 1 7 8 100 255 256 257 300 504 511)
+    for compiler in "${compilers[@]}"; do
+        compile "$compiler" "$compiler" split ppu
+        for scroll in "${scrolls[@]}"; do
+            "$out/split-$compiler" "$scroll" >"$out/split.ppm" || fail "split $scroll by $compiler"
+            look split "$out/split.ppm" "$scroll"
+        done
+        "${under[@]}" "$out/split-$compiler" >"$out/split.ppm" || fail "split by $compiler"
+        look split "$out/split.ppm" 100
+    done
+    split_seen "the line below the bar" 's/set_scroll(scroll,/set_scroll(scroll + 1,/'
+    split_seen "the line below the bar" 's/set_scroll(scroll, y + 1)/set_scroll(scroll, y)/'
+    split_seen "the line below the bar" 's/set_scroll(scroll, y + 1);/write_port(0x2005, scroll); write_port(0x2005, 0);/'
+    split_seen "the playfield" 's/set_scroll(scroll, y + 1)/set_scroll(scroll, y + 2)/'
+    split_seen "the bar" 's/set_scroll(0, 0)/set_scroll(1, 0)/'
+    split_ends "no sprite 0 hit up to line 239" 's/0x2001, 0x1E/0x2001, 0x0A/'
+    split_ends "a run was refused with 5" 's/run(1, PPU_UNTIL_HIT)/run(1, 3)/'
+    split_ends "a write was refused with 1" 's/0x2001, 0x1E/0x4001, 0x1E/'
+    split_ends "no unit of board 7" 's/PPU_VERTICAL/7/g'
+    if "$out/split-${compilers[0]}" >/dev/full; then fail "split on a full device ends with 0"; fi
+    say "examples/split.c by ${compilers[*]} draws what is reckoned for the scrolls ${scrolls[*]}, and ends with 1 where a call fails or nothing hits"
 }
 
 # The text layer beside the library, in examples/text.c, and alone.
@@ -257,6 +308,35 @@ test_keys() {
     say "the viewer's keys n, Right, l, Down, r, s, q; its screen is tests/viewer/paused.png and, within a picture, within.png (${job})"
 }
 
+# panel_says TEXT: a line of the panel
+panel_says() {
+    look panel "$(place)" >"$out/panel"
+    grep -qx "$1" "$out/panel" || fail "the panel has no '$1': $(cat "$out/panel")"
+}
+
+# The key h: to each sprite 0 hit of a log, the first alone of the lines where sprite 0 and background meet in a picture, and to the log's end
+test_hits() {
+    local hits hit
+    mapfile -t hits < <(look hits)
+    [ ${#hits[@]} -gt 1 ] || fail "no hits in hits.log"
+    start "${compilers[0]}" --paused "$out/hits.log"
+    title "hits.log: picture 0, paused before line 0"
+    for hit in "${hits[@]}"; do
+        keys h
+        title "hits.log: picture ${hit% *}, paused before line $((${hit#* } + 1))"
+        panel_says "HIT ON LINE ${hit#* }"
+    done
+    keys l
+    title "hits.log: picture ${hit% *}, paused before line $((${hit#* } + 2))"
+    look panel "$(place)" >"$out/panel"
+    ! grep -q "HIT ON" "$out/panel" || fail "the panel still speaks of a hit a line later"
+    keys h
+    title "hits.log: picture *, end of log"
+    panel_says "NO HIT BEFORE THE END"
+    quit q
+    say "the viewer's key h stops after each sprite 0 hit of a log, and at its end: ${#hits[@]} hits"
+}
+
 # The third picture of a log, in a file's colours, against the reckoning with this mask: third LOG PALETTE MASK
 third() {
     start "${compilers[-1]}" --paused --scale 1 --palette "$2" "$out/$1"
@@ -379,6 +459,7 @@ test_viewer() {
     fi
     start_server
     test_keys
+    test_hits
     test_pictures
     test_capture
     test_time
@@ -400,10 +481,11 @@ tests/packages pkg-config libsdl2-dev xvfb xdotool || true
 test_install
 export PKG_CONFIG_PATH=$prefix/lib/pkgconfig ASAN_OPTIONS=detect_leaks=0 # SDL keeps some memory
 under=()
-if valgrind --quiet true 2>/dev/null; then under=(valgrind --quiet --error-exitcode=9); else skip "valgrind on minimal and text, which is not here"; fi
+if valgrind --quiet true 2>/dev/null; then under=(valgrind --quiet --error-exitcode=9); else skip "valgrind on minimal, split and text, which is not here"; fi
 if has pkg-config; then
     test_packages
     test_minimal
+    test_split
     test_text
 else
     skip "the examples, for want of pkg-config"

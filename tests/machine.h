@@ -115,6 +115,9 @@ static inline uint64_t answer(unsigned byte, unsigned nmi, unsigned lines)
     return (uint64_t)byte << 8 | (uint64_t)nmi << 16 | (uint64_t)lines << 32;
 }
 
+/* that of a run: whether its reason was met, the NMI level and the lines run */
+static inline uint64_t run_answer(unsigned met, unsigned nmi, unsigned lines) { return answer(0, nmi, lines) | (uint64_t)met << 17; }
+
 /* that of a search: the sprites it looked at */
 static inline uint64_t looked_answer(unsigned looked, unsigned nmi) { return (uint64_t)looked << 24 | (uint64_t)nmi << 16; }
 
@@ -140,18 +143,15 @@ static inline uint64_t search_on(Machine *m, unsigned line)
     return ppu_search(m->unit, m->length[UNIT], (uint16_t)line, m->oam, m->length[OAM]);
 }
 
-static inline uint64_t one_line(Machine *m)
+static inline uint64_t run_lines(Machine *m, unsigned most, unsigned reason)
 {
-    return ppu_line(m->unit, m->length[UNIT], m->left, m->length[LEFT], m->right, m->length[RIGHT], m->nametables, m->length[NAMETABLES],
-                    m->oam, m->length[OAM], m->palette, m->length[PALETTE], m->line, m->length[LINE], m->colours, m->length[COLOURS]);
+    return ppu_run(m->unit, m->length[UNIT], (uint16_t)most, (uint8_t)reason, m->left, m->length[LEFT], m->right, m->length[RIGHT],
+                   m->nametables, m->length[NAMETABLES], m->oam, m->length[OAM], m->palette, m->length[PALETTE], m->line, m->length[LINE],
+                   m->colours, m->length[COLOURS]);
 }
 
-static inline uint64_t run_lines(Machine *m, unsigned most)
-{
-    return ppu_run(m->unit, m->length[UNIT], (uint16_t)most, m->left, m->length[LEFT], m->right, m->length[RIGHT], m->nametables,
-                   m->length[NAMETABLES], m->oam, m->length[OAM], m->palette, m->length[PALETTE], m->line, m->length[LINE], m->colours,
-                   m->length[COLOURS]);
-}
+/* the next line alone, with no reason to stop */
+static inline uint64_t one_line(Machine *m) { return run_lines(m, 1, PPU_RUN_ALL); }
 
 static inline uint64_t play_log(Machine *m, const uint8_t *log, size_t length)
 {

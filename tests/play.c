@@ -1,5 +1,5 @@
 /* The record at the front of a log: document 01's example, which logs are refused with 5 and before what, which lengths each kind of record
-   looks at, and that a record does what ppu_read, ppu_write and ppu_line do. */
+   looks at, and that a record does what ppu_read, ppu_write and ppu_run do. */
 #include "machine.h"
 
 static Machine m, other;
@@ -217,7 +217,7 @@ static void accesses(void)
     part("every port and byte, drawing or not, v everywhere: every byte of memory, too");
 }
 
-/* a run of a log and as many calls of ppu_line on a copy */
+/* a run of a log, and on a copy as many runs of one line */
 static void run_alike(unsigned lines)
 {
     uint64_t last = 0;
@@ -245,7 +245,7 @@ static void runs(void)
             m.unit[PPU_AT_CONTROL] = 0;
             run_alike(counts[i]);
         }
-    part("runs from every line, control bit 7 set and not: as many calls of ppu_line, in every byte");
+    part("runs from every line, control bit 7 set and not: as many runs of one line, in every byte");
     for (unsigned lines = 1; lines < 600; lines++) {
         at = lines;
         good_record(&m, 0, 241);

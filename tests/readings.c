@@ -14,7 +14,7 @@ static void begin(void)
     memset(m.palette, 0, 32);
     no_sprites(&m);
     EXPECT(ppu_fresh(m.unit, 16, PPU_VERTICAL), 0);
-    EXPECT(run_lines(&m, 262), answer(0, 0, 262));
+    EXPECT(run_lines(&m, 262, PPU_RUN_ALL), answer(0, 0, 262));
 }
 
 /* Two write toggles, one for port 5 and one for port 6. There is one. */

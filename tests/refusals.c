@@ -2,14 +2,16 @@
    Every unit here has bit 7 of control and status set, so that the NMI level 0 of a refusal is not the unit's own. */
 #include "machine.h"
 
-/* SEARCH on a line that the address gives, RUN of five lines, NO_RUN of none */
-enum { READ, WRITE, DMA, SEARCH, A_LINE, RUN, NO_RUN, CALLS };
+/* SEARCH on a line that the address gives; of the runs A_LINE of one line, TO_NMI and TO_HIT of five with that reason, NO_RUN of none with a reason
+   that the address gives */
+enum { READ, WRITE, DMA, SEARCH, A_LINE, TO_NMI, TO_HIT, NO_RUN, CALLS };
 
 static const int takes[CALLS][BUFFERS] = {
     { UNIT, LEFT, RIGHT, NAMETABLES, OAM, PALETTE, -1 },
     { UNIT, LEFT, RIGHT, NAMETABLES, OAM, PALETTE, -1 },
     { UNIT, OAM, PAGE, -1 },
     { UNIT, OAM, -1 },
+    { UNIT, LEFT, RIGHT, NAMETABLES, OAM, PALETTE, LINE, COLOURS, -1 },
     { UNIT, LEFT, RIGHT, NAMETABLES, OAM, PALETTE, LINE, COLOURS, -1 },
     { UNIT, LEFT, RIGHT, NAMETABLES, OAM, PALETTE, LINE, COLOURS, -1 },
     { UNIT, LEFT, RIGHT, NAMETABLES, OAM, PALETTE, LINE, COLOURS, -1 },
@@ -30,8 +32,10 @@ static uint64_t call(int which, unsigned address)
         return search_on(&m, address % 240);
     case A_LINE:
         return one_line(&m);
+    case NO_RUN:
+        return run_lines(&m, 0, address % 3);
     default:
-        return run_lines(&m, which == RUN ? 5 : 0);
+        return run_lines(&m, 5, which == TO_NMI ? PPU_UNTIL_NMI : PPU_UNTIL_HIT);
     }
 }
 
@@ -283,7 +287,7 @@ static void order(void)
             lend_filled(takes[which][i], right_lengths[takes[which][i]] - 1);
             expect_refused(which, 0, 2);
         }
-    part("refusals together, of sprite DMA, searches, lines and runs: 2 before 3");
+    part("refusals together, of sprite DMA, searches and runs with each reason: 2 before 3");
 }
 
 /* lengths and the record are tested before a line that does not draw, too */
@@ -306,7 +310,7 @@ static void blank_lines(void)
                 expect_refused(which, 0, cases[i].number);
             }
     }
-    part("every line and run, drawn or not: refused with not a byte changed");
+    part("every line and run with each reason, drawn or not: refused with not a byte changed");
 }
 
 int main(void)

@@ -301,7 +301,7 @@ static void runs(void)
         with += status > 0;
         for (int by_log = 0; by_log < 2; by_log++) {
             set_line(&m, from, 0, 0);
-            EXPECT(by_log ? play_log(&m, log, 4) : run_lines(&m, count), answer(0, 0, count));
+            EXPECT(by_log ? play_log(&m, log, 4) : run_lines(&m, count, PPU_RUN_ALL), answer(0, 0, count));
             EXPECT(m.unit[PPU_AT_STATUS], status);
         }
     }
@@ -494,7 +494,7 @@ static void expect_none_looked(uint64_t given, unsigned level)
     EXPECT(ppu_number(given), 0);
     EXPECT(ppu_nmi(given), level);
     EXPECT(ppu_looked(given), 0);
-    EXPECT(given >> 17 & 0x7F, 0);
+    EXPECT(given >> 18 & 0x3F, 0);
 }
 
 static void other_calls(void)
@@ -514,10 +514,10 @@ static void other_calls(void)
     for (unsigned line = 0; line < 262; line++) {
         uint8_t log[4] = { 2, 0, 1, 0 };
         at = line;
-        good_record(&m, 0x18, line);
-        expect_none_looked(one_line(&m), line != 261);
-        good_record(&m, 0x18, line);
-        expect_none_looked(run_lines(&m, 1), line != 261);
+        for (unsigned reason = PPU_RUN_ALL; reason <= PPU_UNTIL_HIT; reason++) {
+            good_record(&m, 0x18, line);
+            expect_none_looked(run_lines(&m, 1, reason), line != 261);
+        }
         good_record(&m, 0x18, line);
         expect_none_looked(play_log(&m, log, 4), line != 261);
     }

@@ -20,7 +20,7 @@ static const char help[] =
     "The text has a line for each record:\n"
     "  R 2002           read the address\n"
     "  W 2006 21        write the byte to the address\n"
-    "  RUN 262          run so many lines, 0 to 65535, without early stop\n"
+    "  RUN 262          run so many lines, 0 to 65535, with no reason to stop\n"
     "  RAW 03 01 06 00  a record by its four bytes, for one that is not well formed; with one to three bytes it is a record\n"
     "                   cut short, and the last\n"
     "Addresses and bytes are hexadecimal, with or without a $ in front; numbers of lines are decimal. Large and small letters\n"

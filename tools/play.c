@@ -39,15 +39,16 @@ static void hand_on(Machine *m, unsigned line)
         m->drawn(m->context, m, line);
 }
 
-/* ppu_play leaves only the last line of a run. A run changes nothing but the unit's record and the line's two buffers: so ppu_line, from the
-   record as it was before, gives each of the lines exactly, and leaves what the run left. */
+/* ppu_play leaves only the last line of a run. A run changes nothing but the unit's record and the line's two buffers: so as many runs of a
+   single line, from the record as it was before, give each of the lines exactly, and leave what the run left. */
 static void run_again(Machine *m, const uint8_t *before, uint32_t lines)
 {
     memcpy(m->unit, before, sizeof m->unit);
     for (; lines; lines--) {
         unsigned line = next_line(m);
-        ppu_line(m->unit, sizeof m->unit, m->left, sizeof m->left, m->right, sizeof m->right, m->nametables, sizeof m->nametables, m->oam,
-                 sizeof m->oam, m->palette, sizeof m->palette, m->line, sizeof m->line, m->colours, sizeof m->colours);
+        ppu_run(m->unit, sizeof m->unit, 1, PPU_RUN_ALL, m->left, sizeof m->left, m->right, sizeof m->right, m->nametables,
+                sizeof m->nametables, m->oam, sizeof m->oam, m->palette, sizeof m->palette, m->line, sizeof m->line, m->colours,
+                sizeof m->colours);
         hand_on(m, line);
     }
 }

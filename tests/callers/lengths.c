@@ -7,10 +7,10 @@
    A call with a wrong length must answer 2 and change nothing; one with the right lengths must not answer 2; what is
    lent to be looked at is never changed. A log without a whole and good record at its front must answer 5; with one, the
    lengths that count are those of the call that the record stands for. A search on a line above 239 must answer 5, whatever
-   the lengths; one that is done looks at 9 to 64 sprites, and no other call says that it looked at any. Rows of the right
-   length with a character that is 0 or has no tile must answer 8. LINES says that the archive has ppu_line, ppu_run and
-   ppu_play. With REACH_READ or REACH_WRITE the test itself goes one byte beyond a slice, as a faulty library would, to show
-   that this is noticed. */
+   the lengths; one that is done looks at 9 to 64 sprites, and no other call says that it looked at any. A run with a
+   reason to stop above 2 must answer 5, whatever the lengths; only one with reason 1 or 2 says that it met its reason.
+   Rows of the right length with a character that is 0 or has no tile must answer 8. With REACH_READ or REACH_WRITE the
+   test itself goes one byte beyond a slice, as a faulty library would, to show that this is noticed. */
 #define _DEFAULT_SOURCE
 #include <stdio.h>
 #include <stdlib.h>
@@ -18,17 +18,18 @@
 #include <sys/mman.h>
 #include "ppu.h"
 
-/* PAGE is sprite DMA's, SHEET a page of nametable RAM. */
+/* PAGE is sprite DMA's, SHEET a page of nametable RAM. The runs are in the order of their reasons. */
 enum { UNIT, LEFT, RIGHT, NAMETABLES, OAM, PALETTE, LINE, COLOURS, PAGE, LOG, SHEET, TABLE, ROWS, MEMORIES };
-enum { FRESH, READ, WRITE, DMA, SEARCH, TEXT, TEXT_PAGE, RUN_LINE, RUN_MANY, PLAY, KINDS };
+enum { FRESH, READ, WRITE, DMA, SEARCH, TEXT, TEXT_PAGE, RUN, TO_NMI, TO_HIT, PLAY, KINDS };
 enum { LONGEST = 5000, ROOM = 8192, BARRIER = 4096, NUMBERS = 9 };
 
 static const size_t right_length[MEMORIES] = {16, 4096, 4096, 2048, 256, 32, 256, 512, 256, 4, 1024, 256, 960};
-static const char *const kind_name[KINDS] = {"fresh", "read", "write", "dma", "search", "text", "page", "line", "run", "play"};
+static const char *const kind_name[KINDS] = {"fresh", "read", "write", "dma", "search", "text",
+                                             "page", "run", "to NMI", "to hit", "play"};
 
 /* The memories that a kind of call is lent, and those of them that it may change, as sets of bits; for play see `played`. */
-static const unsigned lent[KINDS] = {0x01, 0x3F, 0x3F, 0x111, 0x11, 0x1C00, 0x1C00, 0xFF, 0xFF, 0x2FF};
-static const unsigned mutable_ones[KINDS] = {0x01, 0x01, 0x3F, 0x11, 0, 0x1000, 0x400, 0xC1, 0xC1, 0};
+static const unsigned lent[KINDS] = {0x01, 0x3F, 0x3F, 0x111, 0x11, 0x1C00, 0x1C00, 0xFF, 0xFF, 0xFF, 0x2FF};
+static const unsigned mutable_ones[KINDS] = {0x01, 0x01, 0x3F, 0x11, 0, 0x1000, 0x400, 0xC1, 0xC1, 0xC1, 0};
 
 static struct memory {
     uint8_t *room;    /* ROOM bytes between two barriers, or the block itself */
@@ -38,8 +39,10 @@ static struct memory {
 } memory[MEMORIES];
 
 static int in_pages, failed;
+static long met[KINDS]; /* the runs that met their reason */
 static uint64_t state;
 static uint16_t searched; /* the line of a search */
+static uint8_t reason;    /* of a run */
 
 static uint64_t next_random(void)
 {
@@ -170,7 +173,7 @@ static int played(const struct memory *log)
 {
     if (log->length < 4 || log->at[0] > 2 || (log->at[0] != 1 && log->at[3] != 0))
         return PLAY;
-    return log->at[0] == 0 ? READ : log->at[0] == 1 ? WRITE : RUN_MANY;
+    return log->at[0] == 0 ? READ : log->at[0] == 1 ? WRITE : RUN;
 }
 
 /* Lengths: all right; one off by one; one of any length; all of any length. A log is often short. */
@@ -212,20 +215,12 @@ static uint64_t call(int kind)
         return ppu_text(SLICE(SHEET), SLICE(TABLE), SLICE(ROWS));
     case TEXT_PAGE:
         return ppu_page(SLICE(ROWS), SLICE(TABLE), SLICE(SHEET));
-#ifdef LINES
-    case RUN_LINE:
-        return ppu_line(SLICE(UNIT), SLICE(LEFT), SLICE(RIGHT), SLICE(NAMETABLES), SLICE(OAM), SLICE(PALETTE), SLICE(LINE),
-                        SLICE(COLOURS));
     case PLAY:
         return ppu_play(SLICE(UNIT), SLICE(LOG), SLICE(LEFT), SLICE(RIGHT), SLICE(NAMETABLES), SLICE(OAM), SLICE(PALETTE),
                         SLICE(LINE), SLICE(COLOURS));
     default:
-        return ppu_run(SLICE(UNIT), (uint16_t)below(5), SLICE(LEFT), SLICE(RIGHT), SLICE(NAMETABLES), SLICE(OAM), SLICE(PALETTE),
-                       SLICE(LINE), SLICE(COLOURS));
-#else
-    default:
-        abort();
-#endif
+        return ppu_run(SLICE(UNIT), (uint16_t)below(below(4) ? 5 : 600), reason, SLICE(LEFT), SLICE(RIGHT), SLICE(NAMETABLES),
+                       SLICE(OAM), SLICE(PALETTE), SLICE(LINE), SLICE(COLOURS));
     }
 }
 
@@ -259,6 +254,11 @@ static int is_kept(const struct memory *m, int may_change)
     return memcmp(m->room, m->before, front) == 0 && memcmp(m->room + end, m->before + end, room_size(m) - end) == 0;
 }
 
+static int is_run(int kind)
+{
+    return kind >= RUN && kind <= TO_HIT;
+}
+
 /* Every memory at the length of a call of the kind, with bytes that are mostly fit for one. */
 static void prepare(int kind)
 {
@@ -271,6 +271,8 @@ static void prepare(int kind)
     if (length[UNIT] >= 16 && below(4))
         make_well_formed(memory[UNIT].at);
     searched = (uint16_t)(below(4) ? below(240) : below(2) ? 238 + below(4) : next_random());
+    if (is_run(kind))
+        reason = (uint8_t)(below(8) ? (size_t)(kind - RUN) : 3 + below(253));
     make_sprites(&memory[OAM]);
     make_record(memory[LOG].at, length[LOG]);
     make_rows(&memory[ROWS], &memory[TABLE]);
@@ -284,11 +286,18 @@ static int is_looked(unsigned looked, int search)
     return search ? looked >= 9 && looked <= 64 : looked == 0;
 }
 
+/* Whether 5 is due: for a log without a record, a search on no line of the picture, a run with no such reason. */
+static int is_unknown(int kind)
+{
+    return (kind == PLAY && played(&memory[LOG]) == PLAY) || (kind == SEARCH && searched > 239) ||
+           (is_run(kind) && reason > PPU_UNTIL_HIT);
+}
+
 static int round_of(long round, int kind)
 {
     int wrong = 0;
     prepare(kind);
-    int as = kind == PLAY ? played(&memory[LOG]) : kind, unknown = as == PLAY || (as == SEARCH && searched > 239);
+    int as = kind == PLAY ? played(&memory[LOG]) : kind, unknown = is_unknown(kind);
     for (int m = 0; m < MEMORIES; m++)
         wrong |= !unknown && (lent[as] >> m & 1) && memory[m].length != right_length[m];
     int bad = as == TEXT_PAGE && !wrong && has_bad_character(&memory[ROWS], &memory[TABLE]);
@@ -296,7 +305,7 @@ static int round_of(long round, int kind)
     reach();
     int number = (int)ppu_number(answer);
     if ((number == 5) != unknown)
-        complain(round, kind, unknown ? "no record or no such line, and not refused with 5" : "a record or line is refused with 5");
+        complain(round, kind, unknown ? "an unknown request is not refused with 5" : "a known request is refused with 5");
     if ((number == 2) != wrong)
         complain(round, kind, wrong ? "a wrong length is not refused with 2" : "the right lengths are refused with 2");
     if ((number == 8) != bad)
@@ -305,6 +314,9 @@ static int round_of(long round, int kind)
         complain(round, kind, "a refusal says more than its number");
     if (!is_looked(ppu_looked(answer), number == 0 && kind == SEARCH))
         complain(round, kind, "so many sprites cannot have been looked at");
+    if (ppu_met(answer) && kind != TO_NMI && kind != TO_HIT)
+        complain(round, kind, "a reason is met where there is none");
+    met[kind] += ppu_met(answer);
     for (int m = 0; m < MEMORIES; m++) {
         if (!is_kept(&memory[m], number == 0 && (mutable_ones[as] >> m & 1)))
             complain(round, kind, "memory changed that must not");
@@ -325,20 +337,14 @@ int main(int argc, char **argv)
     in_pages = strcmp(argv[3], "pages") == 0;
     if (in_pages)
         open_rooms();
-#ifdef LINES
-    int kinds = KINDS;
-#else
-    int kinds = RUN_LINE;
-    printf("tests/callers: the archive has no ppu_line and ppu_run\n");
-#endif
     for (long round = 0; round < rounds && !failed; round++) {
-        int kind = (int)below((size_t)kinds);
+        int kind = (int)below(KINDS);
         count[kind][round_of(round, kind) % NUMBERS]++;
     }
-    for (int k = 0; k < kinds; k++) {
-        printf("  %-6s %ld done, refused %ld with 1, %ld with 2, %ld with 3, %ld with 4, %ld with 5, %ld with 8\n",
-               kind_name[k], count[k][0], count[k][1], count[k][2], count[k][3], count[k][4], count[k][5], count[k][8]);
-        failed |= count[k][0] == 0 || count[k][2] == 0 || ((k == PLAY || k == SEARCH) && count[k][5] == 0) ||
+    for (int k = 0; k < KINDS; k++) {
+        printf("  %-6s %ld done (%ld met), refused %ld with 1, %ld with 2, %ld with 3, %ld with 4, %ld with 5, %ld with 8\n",
+               kind_name[k], count[k][0], met[k], count[k][1], count[k][2], count[k][3], count[k][4], count[k][5], count[k][8]);
+        failed |= count[k][0] == 0 || count[k][2] == 0 || ((k == PLAY || k == SEARCH || is_run(k)) && count[k][5] == 0) ||
                   (k == TEXT_PAGE && count[k][8] == 0);
     }
     printf("tests/callers: %ld calls, seed %s, %s: %s\n", rounds, argv[2], argv[3], failed ? "FAILED" : "ok");

@@ -25,16 +25,17 @@ static void *nothing(void *unused) { return unused; }
 static void *all_calls(void *unused)
 {
     uint64_t sum = ppu_fresh(m.unit, 16, PPU_VERTICAL | PPU_WRITABLE);
-    sum += run_lines(&m, 262);
+    sum += run_lines(&m, 262, PPU_RUN_ALL);
     set_word(m.unit, PPU_AT_V, 0x3F01); /* backdrop override */
-    sum += run_lines(&m, 262);
+    sum += run_lines(&m, 262, PPU_RUN_ALL);
     sum += sprite_dma(&m);
     for (unsigned port = 0; port < 8; port++)
         sum += write_at(&m, 0x2000 + port, 0x1E) + read_at(&m, 0x2000 + port);
     sum += write_at(&m, 0x2001, 0x1E);
     for (int i = 0; i < 262; i++)
         sum += one_line(&m);
-    sum += run_lines(&m, 262);
+    for (unsigned reason = PPU_RUN_ALL; reason <= PPU_UNTIL_HIT + 1; reason++) /* the last is unknown */
+        sum += run_lines(&m, 262, reason);
     cut_short = 0;
     for (unsigned line = 0; line < 240; line++)
         cut_short += ppu_looked(search_on(&m, line)) < 64;

@@ -2,9 +2,9 @@
 
    The string: 16 bytes of the unit's record (as they are if the next byte is odd, else made well formed), a byte that
    chooses the contents of memory, then steps. A step is a byte, whose low three bits say what, and its arguments:
-   0 read, 1 write, 2 sprite DMA, the search for overflow, or a call of the text layer, 3 line, 4 run, or the record of a
-   log, also with one length near the right one, 5 a byte of memory, 6 a sprite near the next line, or a row of them, 7 a
-   length for the next call, or fresh. LINES says that the archive has ppu_line, ppu_run and ppu_play. */
+   0 read, 1 write, 2 sprite DMA, the search for overflow, or a call of the text layer, 3 a run of one line or some, with a
+   known reason to stop or any, 4 the record of a log, also with one length near the right one, 5 a byte of memory, 6 a
+   sprite near the next line, or a row of them, 7 a length for the next call, or fresh. */
 #include <stdio.h>
 #include <stdlib.h>
 #include <string.h>
@@ -108,11 +108,15 @@ static void put_row(unsigned number)
             set_byte(OAM, 4 * (slot % 64) + i, (uint8_t)(i == 0 ? y : other));
 }
 
-#ifdef LINES
-/* A record of a log, as it comes or of a known kind; few lines where they are drawn, since the second unit is slow. */
+/* Whether lines are drawn: then few are run, since the second unit is slow. */
+static int is_drawn(void)
+{
+    return library.memory[UNIT][SLACK + 1] & 0x18;
+}
+
+/* A record of a log, as it comes or of a known kind. */
 static void put_record(int as_it_comes)
 {
-    const uint8_t *unit = library.memory[UNIT] + SLACK;
     uint8_t record[4];
     for (int i = 0; i < 4; i++)
         record[i] = (uint8_t)take();
@@ -121,14 +125,13 @@ static void put_record(int as_it_comes)
         record[1] = record[0] == 2 ? 0 : 0x20 | record[1] % 0x20;
         record[3] = record[0] == 1 ? record[3] : 0;
     }
-    if (record[0] == 2 && unit[1] & 0x18) {
+    if (record[0] == 2 && is_drawn()) {
         record[1] = 0;
         record[2] %= MOST_LINES + 1;
     }
     for (int i = 0; i < 4; i++)
         set_byte(LOG, i, record[i]);
 }
-#endif
 
 /* A table of characters: one for all tiles, a few, all different, or any, and some tiles without one. */
 static void put_table(void)
@@ -248,7 +251,6 @@ static void access_memory(unsigned what)
     }
 }
 
-#ifdef LINES
 static void play_record(unsigned what)
 {
     put_record(what & 8);
@@ -260,20 +262,15 @@ static void play_record(unsigned what)
             second_play(SLICE(second, UNIT), SLICE(second, LOG), PICTURE(second)));
 }
 
-/* Steps 3 and 4: a line, a run, or the record of a log. */
+/* A run of one line, or with bit 3 of some; with bit 4 the reason is any byte, known or not. */
 static void run_lines(unsigned what)
 {
-    if ((what & 7) == 3) {
-        compare("line", ppu_line(SLICE(library, UNIT), PICTURE(library)), second_line(SLICE(second, UNIT), PICTURE(second)));
-    } else if (what & 16) {
-        play_record(what);
-    } else {
-        unsigned lines = (what & 8 ? take() : what >> 5) % (MOST_LINES + 1);
-        compare("run", ppu_run(SLICE(library, UNIT), lines, PICTURE(library)),
-                second_run(SLICE(second, UNIT), lines, PICTURE(second)));
-    }
+    unsigned lines = what & 8 ? take() : 1, reason = what & 16 ? take() : (what >> 5) % 3;
+    if (is_drawn())
+        lines %= MOST_LINES + 1;
+    compare("run", ppu_run(SLICE(library, UNIT), lines, reason, PICTURE(library)),
+            second_run(SLICE(second, UNIT), lines, reason, PICTURE(second)));
 }
-#endif
 
 /* Steps 5 to 7: a byte of memory, sprites, a length or a fresh unit. */
 static void change(unsigned what)
@@ -307,12 +304,12 @@ static void step(unsigned what)
 {
     if ((what & 7) < 3)
         access_memory(what);
-    else if ((what & 7) > 4)
-        change(what);
-#ifdef LINES
-    else
+    else if ((what & 7) == 3)
         run_lines(what);
-#endif
+    else if ((what & 7) == 4)
+        play_record(what);
+    else
+        change(what);
 }
 
 int LLVMFuzzerTestOneInput(const uint8_t *bytes, size_t size)

@@ -10,11 +10,8 @@ uint64_t second_read(uint8_t *unit, size_t, uint16_t address, const uint8_t *lef
 uint64_t second_write(uint8_t *unit, size_t, uint16_t address, uint8_t byte, uint8_t *left, size_t, uint8_t *right, size_t,
                       uint8_t *nametables, size_t, uint8_t *oam, size_t, uint8_t *palette, size_t);
 uint64_t second_dma(uint8_t *unit, size_t, uint8_t *oam, size_t, const uint8_t *page, size_t);
-uint64_t second_line(uint8_t *unit, size_t, const uint8_t *left, size_t, const uint8_t *right, size_t,
-                     const uint8_t *nametables, size_t, const uint8_t *oam, size_t, const uint8_t *palette, size_t,
-                     uint8_t *line, size_t, uint8_t *colours, size_t);
-uint64_t second_run(uint8_t *unit, size_t, uint16_t lines, const uint8_t *left, size_t, const uint8_t *right, size_t,
-                    const uint8_t *nametables, size_t, const uint8_t *oam, size_t, const uint8_t *palette, size_t,
+uint64_t second_run(uint8_t *unit, size_t, uint16_t lines, uint8_t reason, const uint8_t *left, size_t, const uint8_t *right,
+                    size_t, const uint8_t *nametables, size_t, const uint8_t *oam, size_t, const uint8_t *palette, size_t,
                     uint8_t *line, size_t, uint8_t *colours, size_t);
 uint64_t second_search(const uint8_t *unit, size_t, uint16_t line, const uint8_t *oam, size_t);
 uint64_t second_play(uint8_t *unit, size_t, const uint8_t *log, size_t, uint8_t *left, size_t, uint8_t *right, size_t,

@@ -3,6 +3,7 @@
 
     window.py logs FOLDER                         writes logs and palette files for the tests there
     window.py minimal                             prints what examples/minimal must print
+    window.py split PPM SCROLL                    the picture that examples/split has printed for this scroll is the one reckoned
     window.py store X11 PNG                       stores the window's screen
     window.py same X11 PNG                        the screen is the stored one
     window.py bmp FILE PNG                        so is this BMP file
@@ -10,12 +11,14 @@
     window.py capture X11 PALETTE NAME K          the picture is picture K of this capture, as the emulator drew it, in these colours
     window.py panel X11                           prints the panel's text
     window.py search LOG                          prints what the panel must say of the next line's search at the log's end: nothing if it is not drawn
+    window.py hits                                prints the sprite 0 hits of hits.log: the pictures that are whole before, and the line
 
 X11 is FILE,X,Y,WIDTH,HEIGHT: the X server's frame buffer (an XWD file, which Xvfb -fbdir keeps) and the window's place in it. The screen is
 what the window shows, at its own size: each of its pixels must stand there as a square, in the middle of the window.
 """
 import array
 import random
+import re
 import runpy
 import struct
 import sys
@@ -26,10 +29,11 @@ from pathlib import Path
 ROOT = Path(__file__).resolve().parents[2]
 sys.dont_write_bytecode = True
 sys.path.insert(0, str(ROOT / "tests"))
-from pictures import captures, extended, finished, palettes, run, shown, write
+from pictures import captures, extended, fill, finished, palettes, run, shown, write
 from searches import Sprites
 WIDTH, HEIGHT, MARGIN, PANEL_LEFT, PITCH, COLUMNS = 496, 256, 8, 280, 9, 26     # the layout of examples/screen.h
 BACKDROP = bytes.fromhex("24272E")
+HITS, FLOOR = (92, 60, 150), 96     # hits.log: sprite 0's Y byte, picture by picture, and the first line of the background that it can hit
 
 
 def fail(text):
@@ -64,9 +68,25 @@ def crowded(chance, control):
     return {lines: log + run(lines) for lines in (first - 1, first)}
 
 
+def hitting():
+    """A blank picture, then one for each of HITS: sprite 0 and the background, from FLOOR on, are of one tile, which is opaque everywhere."""
+    log = run(262) + fill(16, b"\xFF" * 8) + fill(0x2000 + 32 * FLOOR // 8, b"\1" * (960 - 32 * FLOOR // 8)) + write(6, 0, 0)
+    for y, lines in zip(HITS, (242, 262, 262)):
+        log += write(3, 0) + write(4, y, 1, 0, 100) + write(1, 0x1E) + run(lines)
+    return log
+
+
+def hits():
+    """The first line that sprite, y + 1 to y + 8, and background share; none where the sprite ends above it."""
+    for before, y in enumerate(HITS, 1):
+        if y + 8 >= FLOOR:
+            print(before, max(y + 1, FLOOR))
+
+
 def logs(folder):
-    """The example's log, checked; the same with other masks; the same with 1200 pictures more; the captures' logs; for the panel the
-    document's log cut short and with more records, bad ones too, random accesses and runs, and crowds of sprites, of both heights."""
+    """The example's log, checked; the same with other masks; the same with 1200 pictures more; the captures' logs; one with sprite 0 hits; for
+    the panel the document's log cut short and with more records, bad ones too, random accesses and runs, and crowds of sprites, of both
+    heights."""
     log = bytes(example()["log"])
     if log != (ROOT / "examples/picture.log").read_bytes():
         fail("examples/picture.log is not what examples/picture.py writes")
@@ -76,6 +96,7 @@ def logs(folder):
     Path(folder, "grey.log").write_bytes(log.replace(mask, mask[:3] + b"\x1F"))
     Path(folder, "emphasis.log").write_bytes(log.replace(mask, mask[:3] + b"\xBE"))
     Path(folder, "long.log").write_bytes(log + bytes((2, 1, 6, 0)) * 1200)
+    Path(folder, "hits.log").write_bytes(hitting())
     paper = (ROOT / "examples/paper.log").read_bytes()
     for end in range(4, len(paper) + 1, 4):
         if paper[end - 4] != 1 or paper[end:end + 1] != b"\x01":      # of writes in a row the last is enough
@@ -96,7 +117,7 @@ def logs(folder):
 
 def minimal():
     """Three diamonds, by distance from their middle and not by a tile's bits: at tile columns 1, 3, 5 of row 1, scrolled by 3 and 2; behind
-    each row the colours of the first, with red emphasised."""
+    each row the colours of the first, with red emphasised. NMI comes with line 241, the second below the picture."""
     for y in range(16):
         row = []
         for x in range(56):
@@ -104,6 +125,28 @@ def minimal():
             there = (y + 2) // 8 == 1 and tile in (1, 3, 5)
             row.append(max(0, min(3, 5 - (abs(2 * across - 7) + abs(2 * down - 7)) // 2)) if there else 0)
         print("".join(" .+#"[number] for number in row), *(f"{64 + (0x0F, 0x16, 0x27, 0x30)[number]:03X}" for number in row[5:13]))
+    print(f"NMI after {241 - 239} lines more")
+
+
+def split_colour(column, y):
+    """Of column 0 to 511 and row y of the two nametables: a tile has a line below, a stripe at its left, a gap, and its column's number in six
+    binary digits; bar and playfield have their pairs of colours, the playfield three for blocks of 32 x 32."""
+    tile, across, page, block = column // 8, column % 8, column // 256, y // 32 * 8 + column % 256 // 32
+    ink = y % 8 == 7 or f"1 {tile:06b}"[across] == "1"
+    paper = 0x0F if y < 32 else (0x11, 0x19, 0x16)[(page + block) % 3]
+    return paper if not ink else 0x30 if y < 32 else paper + 0x20
+
+
+def split(file, scroll):
+    """The bar is lines 0 to 31 and stands still; the playfield below is moved to the left by the scroll. Sprite 0 is behind both."""
+    data, palette = Path(file).read_bytes(), (ROOT / "examples/2c02.pal").read_bytes()
+    header = re.match(rb"P6\s+256\s+240\s+255\s", data)
+    if not header or len(data) - header.end() != 3 * 256 * 240:
+        fail(f"{file}: no PPM of 256 by 240")
+    rows = [data[at:at + 3 * 256] for at in range(header.end(), len(data), 3 * 256)]
+    wanted = [shown(palette, (split_colour((x + (scroll if y >= 32 else 0)) % 512, y) for x in range(256))) for y in range(240)]
+    for what, part in ("the bar", slice(0, 32)), ("the line below the bar", slice(32, 33)), ("the playfield", slice(33, 240)):
+        same(rows[part], wanted[part], f"scroll {scroll}: {what}")
 
 
 def rgb(row, step):
@@ -243,6 +286,8 @@ def main(job, *words):
         logs(*words)
     elif job == "minimal":
         minimal()
+    elif job == "split":
+        split(words[0], int(words[1]))
     elif job == "store":
         store(window(words[0]), words[1])
     elif job == "same":
@@ -257,6 +302,8 @@ def main(job, *words):
         panel(*words)
     elif job == "search":
         search(*words)
+    elif job == "hits":
+        hits()
     else:
         fail(f"no job {job}")
 

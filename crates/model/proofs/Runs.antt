@@ -12,7 +12,7 @@ use Rattle.model.specs.declared.Ppu.{Ppu}
 use Rattle.model.specs.declared.Board.{Board}
 use Rattle.model.specs.Unit.{State, state, lineLength, bit, lastLine, isWellFormed, isRendering, isDrawing, nmiLevel}
 use Rattle.model.specs.Line.{anyOf, hitOf, marked, statusOf, drawnUnit, drawnLine, idleLine, vblankLine, preRenderLine, blankUnit, oneLine, linesRun, lineAfter, meetsReason, lineCount, reasonMet}
-use Rattle.model.specs.Calls.{Lent, Call, readCall, writeCall, dmaCall, runCall, searchCall, Outcome, outcome, lineLong, order, refusalOf, readDone, writeDone, dmaDone, runDone, searchDone, done, onLent}
+use Rattle.model.specs.Calls.{Lent, Call, readCall, writeCall, dmaCall, runCall, searchCall, Outcome, outcome, lineLong, requestOk, order, refusalOf, readDone, writeDone, dmaDone, runDone, searchDone, done, onLent}
 use Rattle.model.specs.Theorems.{untilVblank, meetsAt, Runs, RunCalls}
 use Rattle.model.proofs.Tests.{cond-both, and-both}
 use Rattle.model.proofs.Scroll.{lt-or-ge}
@@ -303,7 +303,10 @@ runs s n =
       hit-rises = hit-rises s;
     }
 
--- THE CALL
+-- THE CALL. 5 for an unknown reason
+unknown : (l : Lent) (why n : ℕ) → 3 ≤ why → requestOk (runCall l why n) ≡ false
+unknown l why n h = le-ltb why 3 h
+
 module _ (s : State) where
   run-0 : (l : Lent) (why n : ℕ) → why < 3 → lineLong (s .unit) (s .memory) ≡ true → isWellFormed (s .unit) ≡ true
       → onLent (runCall l why n) s
@@ -325,8 +328,8 @@ pub run-calls : (s : State) → RunCalls s
 unfolding done readDone writeDone dmaDone searchDone
 run-calls s =
     record {
-      run-5 = λ l why n h. is-unasked (runCall l why n) s (le-ltb why 3 h);
-      exported-run-5 = λ l why n h b. exported-unasked (runCall l why n) b (s .memory) (le-ltb why 3 h);
+      run-5 = λ l why n h. is-unasked (runCall l why n) s (unknown l why n h);
+      exported-run-5 = λ l why n h b. exported-unasked (runCall l why n) b (s .memory) (unknown l why n h);
       run-0 = run-0 s;
       run-next = λ l why n h. lent-lines (runCall l why n) s h;
       run-nothing = run-nothing s;

@@ -108,8 +108,6 @@ pub line-formed : (u : Ppu) (s : Bool) (k : ℕ) → k ≡ plainRefusal s u → 
 unfolding plainRefusal
 line-formed u s k hk h = order-formed _ _ _ _ _ (sym hk ∙ h)
 
-pub ruleset run-cases = (run-unknown, run-refused)
-
 -- A RUN OF ONE LINE from 240 on, whatever is lent
 pub blank-run : (u next : Ppu) (why : ℕ) (m : Bool) (x : Access) → 239 < u .scanline → m ≡ (eqb why 1 && (bit 128 (u .control) && eqb (u .scanline) 241)) → next ≡ blankUnit u
     → x ≡ access (ranAnswer 1 m next) next → (l r n o p b f : List ℕ) → lineOutcome x l r n o p b f ≡ done (runCall own why 1) (state u (lineMemory l r n o p b f))

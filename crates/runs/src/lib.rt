@@ -1,9 +1,9 @@
 // The public call on a unit by value that runs lines: run. It has no `requires`: it refuses what it cannot take, 5 then 2 then 3, and a refused call
-// leaves the unit and every lent memory as they were. Within, the same for C, with the colours lent as bytes: run_bytes, which does the work; for
-// one line line_bytes, and blank_line where it is one from 240 on.
+// leaves the unit and every lent memory as they were. Within, for a reason that is known, the same with the colours lent as bytes, for C: run_bytes,
+// which does the work; for one line line_bytes, and blank_line where it is one from 240 on.
 ghost use mathlib.Core.Path.{_≡_};
 ghost use mathlib.Core.List.{List};
-ghost use Prim.Native.Nat.{ℕ, _<_};
+ghost use Prim.Native.Nat.{ℕ, _<_, _≤_};
 ghost use Rattle.model.specs.Unit.{state, lineMemory};
 ghost use Rattle.model.specs.Colours.{numbersOf};
 ghost use Rattle.model.specs.Calls.{lineOutcome, onLent, runCall, done, own};
@@ -22,12 +22,10 @@ pub fn line_bytes(
     line: &mut [u8],
     colours: &mut [u8],
 ) -> Access
+    requires { ⌜ reason ≤ 2 ⌝ }
     ensures { λ r. ⌜ lineOutcome r (now (left .entry)) (now (right .entry)) (now (nametables .entry)) (now (oam .entry)) (now (palette .entry)) (now (line .exit)) (numbersOf (now (colours .exit))) ≡
         onLent (runCall own reason 1) (state u (lineMemory (now (left .entry)) (now (right .entry)) (now (nametables .entry)) (now (oam .entry)) (now (palette .entry)) (now (line .entry)) (numbersOf (now (colours .entry))))) ⌝ }
 {
-    if 2 < reason {
-        return unit::refused(5, u);
-    }
     let board = u.board;
     let sized = refusals::line_sizes(
         board,
@@ -43,7 +41,7 @@ pub fn line_bytes(
     if n != 0 {
         return unit::refused(n, u);
     }
-    let r = scanline::one_line(
+    let one = scanline::one_line(
         u,
         reason,
         left,
@@ -54,8 +52,8 @@ pub fn line_bytes(
         line,
         colours,
     );
-    let next = r.unit;
-    unit::ran(r.lines, r.met, next)
+    let next = one.unit;
+    unit::ran(one.lines, one.met, next)
 }
 
 // One line from 240 on, accepted: it touches nothing that is lent.
@@ -82,12 +80,10 @@ pub fn run_bytes(
     line: &mut [u8],
     colours: &mut [u8],
 ) -> Access
+    requires { ⌜ reason ≤ 2 ⌝ }
     ensures { λ r. ⌜ lineOutcome r (now (left .entry)) (now (right .entry)) (now (nametables .entry)) (now (oam .entry)) (now (palette .entry)) (now (line .exit)) (numbersOf (now (colours .exit))) ≡
         onLent (runCall own reason lines) (state u (lineMemory (now (left .entry)) (now (right .entry)) (now (nametables .entry)) (now (oam .entry)) (now (palette .entry)) (now (line .entry)) (numbersOf (now (colours .entry))))) ⌝ }
 {
-    if 2 < reason {
-        return unit::refused(5, u);
-    }
     let board = u.board;
     let sized = refusals::line_sizes(
         board,

@@ -100,45 +100,13 @@ pub unsafe extern "C" fn dma(
     .into()
 }
 
-#[cfg_attr(as_library, export_name = "ppu_line")]
-#[cfg_attr(not(as_library), export_name = "second_line")]
-pub unsafe extern "C" fn line(
-    unit: Mutable,
-    unit_size: Size,
-    left: Shared,
-    left_size: Size,
-    right: Shared,
-    right_size: Size,
-    nametables: Shared,
-    nametables_size: Size,
-    oam: Shared,
-    oam_size: Size,
-    palette: Shared,
-    palette_size: Size,
-    line: Mutable,
-    line_size: Size,
-    colours: Mutable,
-    colours_size: Size,
-) -> u64 {
-    calls::line(
-        from_raw_parts_mut(unit, unit_size),
-        from_raw_parts(left, left_size),
-        from_raw_parts(right, right_size),
-        from_raw_parts(nametables, nametables_size),
-        from_raw_parts(oam, oam_size),
-        from_raw_parts(palette, palette_size),
-        from_raw_parts_mut(line, line_size),
-        from_raw_parts_mut(colours, colours_size),
-    )
-    .into()
-}
-
 #[cfg_attr(as_library, export_name = "ppu_run")]
 #[cfg_attr(not(as_library), export_name = "second_run")]
 pub unsafe extern "C" fn run(
     unit: Mutable,
     unit_size: Size,
     most: u16,
+    reason: u8,
     left: Shared,
     left_size: Size,
     right: Shared,
@@ -157,6 +125,7 @@ pub unsafe extern "C" fn run(
     calls::run(
         from_raw_parts_mut(unit, unit_size),
         most,
+        reason,
         from_raw_parts(left, left_size),
         from_raw_parts(right, right_size),
         from_raw_parts(nametables, nametables_size),

@@ -3,7 +3,13 @@
 use crate::colours::Buffers;
 use crate::log::Request;
 use crate::memory::{Lent, LentMut};
+use crate::runs::{Ran, Reason};
 use crate::unit::{Board, Unit, RECORD};
+
+/// The numbers of the reasons to stop a run.
+pub const RUN_ALL: u8 = 0;
+pub const UNTIL_NMI: u8 = 1;
+pub const UNTIL_HIT: u8 = 2;
 
 #[derive(Clone, Copy, Debug, PartialEq, Eq)]
 pub enum Refusal {
@@ -20,6 +26,8 @@ pub struct Answer {
     pub byte: u8,
     pub lines: u16,
     pub nmi: bool,
+    /// Whether a run met its reason to stop.
+    pub met: bool,
     /// Sprites that a search looked at.
     pub looked: u8,
 }
@@ -30,6 +38,7 @@ impl From<Answer> for u64 {
         u64::from(answer.number)
             | u64::from(answer.byte) << 8
             | u64::from(answer.nmi) << 16
+            | u64::from(answer.met) << 17
             | u64::from(answer.looked) << 24
             | u64::from(answer.lines) << 32
     }
@@ -40,6 +49,7 @@ impl From<Answer> for u64 {
 struct Done {
     byte: u8,
     lines: u16,
+    met: bool,
 }
 
 type Outcome = Result<(Unit, Done), Refusal>;
@@ -67,9 +77,9 @@ fn port(address: u16) -> Result<u16, Refusal> {
 /// Does a call's work on the record, saves the unit if the call is done, and makes the answer.
 fn call(record: &mut [u8], work: impl FnOnce(&[u8; RECORD]) -> Outcome) -> Answer {
     match fixed(record).and_then(work) {
-        Ok((unit, Done { byte, lines })) => {
+        Ok((unit, Done { byte, lines, met })) => {
             record.copy_from_slice(&unit.record());
-            Answer { byte, lines, nmi: unit.nmi(), ..Answer::default() }
+            Answer { byte, lines, met, nmi: unit.nmi(), ..Answer::default() }
         }
         Err(refusal) => refused(refusal),
     }
@@ -109,7 +119,7 @@ pub fn read(
             return Err(Refusal::Drawing);
         }
         let byte = unit.read(port, &memory);
-        Ok((unit, Done { byte, lines: 0 }))
+        Ok((unit, Done { byte, ..Done::default() }))
     })
 }
 
@@ -152,12 +162,23 @@ pub fn dma(record: &mut [u8], oam: &mut [u8], page: &[u8]) -> Answer {
     })
 }
 
-/// A call that runs lines: `work` runs them and gives how many.
+/// The reason to stop that a number stands for; 0 is none.
+fn reason_of(number: u8) -> Result<Option<Reason>, Refusal> {
+    match number {
+        RUN_ALL => Ok(None),
+        UNTIL_NMI => Ok(Some(Reason::Nmi)),
+        UNTIL_HIT => Ok(Some(Reason::Hit)),
+        _ => Err(Refusal::Request),
+    }
+}
+
+/// Runs lines for a call or a log, whose reason is known by now.
 fn lines_run(
     record: &mut [u8],
+    most: u16,
+    reason: Option<Reason>,
     [left, right, nametables, oam, palette]: [&[u8]; 5],
     [line, colours]: [&mut [u8]; 2],
-    work: impl Fn(&mut Unit, &Lent, &mut Buffers) -> u16,
 ) -> Answer {
     call(record, |saved| {
         let scene = Lent {
@@ -169,26 +190,8 @@ fn lines_run(
         };
         let mut buffers = Buffers { line: fixed_mut(line)?, colours: fixed_mut(colours)? };
         let mut unit = loaded(saved)?;
-        let lines = work(&mut unit, &scene, &mut buffers);
-        Ok((unit, Done { byte: 0, lines }))
-    })
-}
-
-#[allow(clippy::too_many_arguments)]
-pub fn line(
-    record: &mut [u8],
-    left: &[u8],
-    right: &[u8],
-    nametables: &[u8],
-    oam: &[u8],
-    palette: &[u8],
-    line: &mut [u8],
-    colours: &mut [u8],
-) -> Answer {
-    let memory = [left, right, nametables, oam, palette];
-    lines_run(record, memory, [line, colours], |unit, scene, buffers| {
-        unit.line(scene, buffers);
-        1
+        let Ran { lines, met } = unit.run(most, reason, &scene, &mut buffers);
+        Ok((unit, Done { lines, met, ..Done::default() }))
     })
 }
 
@@ -196,6 +199,7 @@ pub fn line(
 pub fn run(
     record: &mut [u8],
     most: u16,
+    reason: u8,
     left: &[u8],
     right: &[u8],
     nametables: &[u8],
@@ -204,8 +208,13 @@ pub fn run(
     line: &mut [u8],
     colours: &mut [u8],
 ) -> Answer {
-    let memory = [left, right, nametables, oam, palette];
-    lines_run(record, memory, [line, colours], |unit, scene, buffers| unit.run(most, scene, buffers))
+    match reason_of(reason) {
+        Err(refusal) => refused(refusal),
+        Ok(reason) => {
+            let memory = [left, right, nametables, oam, palette];
+            lines_run(record, most, reason, memory, [line, colours])
+        }
+    }
 }
 
 /// The search for overflow on a line; nothing changes.
@@ -223,7 +232,7 @@ fn searched(record: &[u8], line: u16, oam: &[u8]) -> Result<Answer, Refusal> {
     Ok(Answer { looked, nmi: unit.nmi(), ..Answer::default() })
 }
 
-/// Plays the record at the front of a log: the access that it asks for, or its lines without early stop.
+/// Plays the record at the front of a log: the access that it asks for, or its lines with no reason to stop.
 #[allow(clippy::too_many_arguments)]
 pub fn play(
     record: &mut [u8],
@@ -244,10 +253,7 @@ pub fn play(
         }
         Ok(Request::Run(lines)) => {
             let memory = [&*left, right, nametables, oam, palette];
-            lines_run(record, memory, [line, colours], |unit, scene, buffers| {
-                (0..lines).for_each(|_| unit.line(scene, buffers));
-                lines
-            })
+            lines_run(record, lines, None, memory, [line, colours])
         }
     }
 }

@@ -7,9 +7,10 @@
 //! * `unit`: the unit, its record of 16 bytes, and what each port does
 //! * `memory`: the lent memories and where an address leads
 //! * `picture`: the pixels of one line, and what a line does to the unit
+//! * `runs`: lines one after the other, and the reasons to stop
 //! * `overflow`: the search that sets status bit 5
 //! * `colours`: how each pixel becomes a finished colour
-//! * `calls`: fresh, read, write, dma, line, run, search, play on a record and byte slices, refusals included
+//! * `calls`: fresh, read, write, dma, run, search, play on a record and byte slices, refusals included
 //! * `log`: the records of a log, and the player of logs
 //! * `text`: the text layer, which stands above the unit: text of a page, page of a text
 
@@ -19,6 +20,7 @@ pub mod log;
 pub mod memory;
 pub mod overflow;
 pub mod picture;
+pub mod runs;
 pub mod text;
 pub mod unit;
 

@@ -1,6 +1,4 @@
 //! The library's C interface, as calls on slices that answer the packed number.
-//!
-//! `cfg(lines)` says that the archive has `ppu_line` and `ppu_run`.
 
 #![allow(clippy::too_many_arguments)]
 
@@ -45,6 +43,26 @@ extern "C" {
         page: *const u8,
         page_size: usize,
     ) -> u64;
+    fn ppu_run(
+        unit: *mut u8,
+        unit_size: usize,
+        most: u16,
+        reason: u8,
+        left: *const u8,
+        left_size: usize,
+        right: *const u8,
+        right_size: usize,
+        nametables: *const u8,
+        nametables_size: usize,
+        oam: *const u8,
+        oam_size: usize,
+        palette: *const u8,
+        palette_size: usize,
+        line: *mut u8,
+        line_size: usize,
+        colours: *mut u8,
+        colours_size: usize,
+    ) -> u64;
     fn ppu_search(unit: *const u8, unit_size: usize, line: u16, oam: *const u8, oam_size: usize) -> u64;
     fn ppu_play(
         unit: *mut u8,
@@ -87,49 +105,6 @@ extern "C" {
         page_size: usize,
     ) -> u64;
 }
-
-#[cfg(lines)]
-extern "C" {
-    fn ppu_line(
-        unit: *mut u8,
-        unit_size: usize,
-        left: *const u8,
-        left_size: usize,
-        right: *const u8,
-        right_size: usize,
-        nametables: *const u8,
-        nametables_size: usize,
-        oam: *const u8,
-        oam_size: usize,
-        palette: *const u8,
-        palette_size: usize,
-        line: *mut u8,
-        line_size: usize,
-        colours: *mut u8,
-        colours_size: usize,
-    ) -> u64;
-    fn ppu_run(
-        unit: *mut u8,
-        unit_size: usize,
-        most: u16,
-        left: *const u8,
-        left_size: usize,
-        right: *const u8,
-        right_size: usize,
-        nametables: *const u8,
-        nametables_size: usize,
-        oam: *const u8,
-        oam_size: usize,
-        palette: *const u8,
-        palette_size: usize,
-        line: *mut u8,
-        line_size: usize,
-        colours: *mut u8,
-        colours_size: usize,
-    ) -> u64;
-}
-
-pub const LINES: bool = cfg!(lines);
 
 pub fn fresh(unit: &mut [u8], board: u8) -> u64 {
     unsafe { ppu_fresh(unit.as_mut_ptr(), unit.len(), board) }
@@ -197,6 +172,42 @@ pub fn dma(unit: &mut [u8], oam: &mut [u8], page: &[u8]) -> u64 {
     unsafe { ppu_dma(unit.as_mut_ptr(), unit.len(), oam.as_mut_ptr(), oam.len(), page.as_ptr(), page.len()) }
 }
 
+pub fn run(
+    unit: &mut [u8],
+    most: u16,
+    reason: u8,
+    left: &[u8],
+    right: &[u8],
+    nametables: &[u8],
+    oam: &[u8],
+    palette: &[u8],
+    line: &mut [u8],
+    colours: &mut [u8],
+) -> u64 {
+    unsafe {
+        ppu_run(
+            unit.as_mut_ptr(),
+            unit.len(),
+            most,
+            reason,
+            left.as_ptr(),
+            left.len(),
+            right.as_ptr(),
+            right.len(),
+            nametables.as_ptr(),
+            nametables.len(),
+            oam.as_ptr(),
+            oam.len(),
+            palette.as_ptr(),
+            palette.len(),
+            line.as_mut_ptr(),
+            line.len(),
+            colours.as_mut_ptr(),
+            colours.len(),
+        )
+    }
+}
+
 pub fn search(unit: &[u8], line: u16, oam: &[u8]) -> u64 {
     unsafe { ppu_search(unit.as_ptr(), unit.len(), line, oam.as_ptr(), oam.len()) }
 }
@@ -242,101 +253,4 @@ pub fn text(page: &[u8], table: &[u8], rows: &mut [u8]) -> u64 {
 
 pub fn page(rows: &[u8], table: &[u8], page: &mut [u8]) -> u64 {
     unsafe { ppu_page(rows.as_ptr(), rows.len(), table.as_ptr(), table.len(), page.as_mut_ptr(), page.len()) }
-}
-
-#[cfg(lines)]
-pub fn line(
-    unit: &mut [u8],
-    left: &[u8],
-    right: &[u8],
-    nametables: &[u8],
-    oam: &[u8],
-    palette: &[u8],
-    line: &mut [u8],
-    colours: &mut [u8],
-) -> u64 {
-    unsafe {
-        ppu_line(
-            unit.as_mut_ptr(),
-            unit.len(),
-            left.as_ptr(),
-            left.len(),
-            right.as_ptr(),
-            right.len(),
-            nametables.as_ptr(),
-            nametables.len(),
-            oam.as_ptr(),
-            oam.len(),
-            palette.as_ptr(),
-            palette.len(),
-            line.as_mut_ptr(),
-            line.len(),
-            colours.as_mut_ptr(),
-            colours.len(),
-        )
-    }
-}
-
-#[cfg(lines)]
-pub fn run(
-    unit: &mut [u8],
-    most: u16,
-    left: &[u8],
-    right: &[u8],
-    nametables: &[u8],
-    oam: &[u8],
-    palette: &[u8],
-    line: &mut [u8],
-    colours: &mut [u8],
-) -> u64 {
-    unsafe {
-        ppu_run(
-            unit.as_mut_ptr(),
-            unit.len(),
-            most,
-            left.as_ptr(),
-            left.len(),
-            right.as_ptr(),
-            right.len(),
-            nametables.as_ptr(),
-            nametables.len(),
-            oam.as_ptr(),
-            oam.len(),
-            palette.as_ptr(),
-            palette.len(),
-            line.as_mut_ptr(),
-            line.len(),
-            colours.as_mut_ptr(),
-            colours.len(),
-        )
-    }
-}
-
-#[cfg(not(lines))]
-pub fn line(
-    _: &mut [u8],
-    _: &[u8],
-    _: &[u8],
-    _: &[u8],
-    _: &[u8],
-    _: &[u8],
-    _: &mut [u8],
-    _: &mut [u8],
-) -> u64 {
-    unreachable!("the archive has no ppu_line")
-}
-
-#[cfg(not(lines))]
-pub fn run(
-    _: &mut [u8],
-    _: u16,
-    _: &[u8],
-    _: &[u8],
-    _: &[u8],
-    _: &[u8],
-    _: &[u8],
-    _: &mut [u8],
-    _: &mut [u8],
-) -> u64 {
-    unreachable!("the archive has no ppu_run")
 }

@@ -84,9 +84,11 @@ impl Machine {
         )
     }
 
-    pub fn line(&mut self) -> Answer {
-        calls::line(
+    pub fn run(&mut self, most: u16, reason: u8) -> Answer {
+        calls::run(
             &mut self.unit,
+            most,
+            reason,
             &self.left,
             &self.right,
             &self.nametables,

@@ -184,16 +184,4 @@ impl Unit {
         }
         self.next_line = (self.next_line + 1) % (LAST_LINE + 1);
     }
-
-    /// Runs up to `most` lines, ending early after line 241 if NMIs are wanted.
-    pub fn run(&mut self, most: u16, scene: &Lent, buffers: &mut Buffers) -> u16 {
-        for count in 1..=most {
-            let ends = self.next_line == 241 && self.control & 0x80 != 0;
-            self.line(scene, buffers);
-            if ends {
-                return count;
-            }
-        }
-        most
-    }
 }

@@ -1,4 +1,4 @@
-use Rattle.ppu.proofs.Cases.{run-cases, run-3, blank-small}
+use Rattle.ppu.proofs.Cases.{run-2, run-3, run-4, blank-small}
 use Rattle.model.proofs.Accepted.{form-long}
 use borrow.Author.Needs.{needs}
 use Rattle.ppu.proofs.line_record.Statement.{statement}
@@ -12,9 +12,6 @@ use Rattle.refusals.proofs.record_refusal.Reads as record-refusal-reads
 use Rattle.refusals.proofs.zero_board.Reads as zero-board-reads
 use Rattle.runs.proofs.blank_line.Reads as blank-line-reads
 use Rattle.runs.proofs.line_bytes.Reads as line-bytes-reads
-
-returns : tie.Need-returns
-returns c = search run-cases
 
 zero-board-requires : tie.Need-zero-board-requires
 zero-board-requires c κs = search needs
@@ -31,8 +28,8 @@ cast-result c = search needs
 same-length : tie.Need-same-length
 same-length c = search needs
 
-returns-2 : tie.Need-returns-2
-returns-2 c = search run-cases
+returns : tie.Need-returns
+returns c = search run-2
 
 read-unit-requires : tie.Need-read-unit-requires
 read-unit-requires c κs = search form-long
@@ -46,11 +43,23 @@ finish-requires c κs = search needs
 same-length-2 : tie.Need-same-length-2
 same-length-2 c = search needs
 
-returns-3 : tie.Need-returns-3
-returns-3 c = search run-cases
+returns-2 : tie.Need-returns-2
+returns-2 c =
+    run-4 _ _ _ _ _ _ _ _ _ _ _
+    (c .before .before .before .before .before .before .before .before .before .before .before .before .before .before .before .before .before .before .before .before .before .before .pre)
+    _ _ _
+    (c .before .before .before .before .before .before .before .before .before .before .before .before .before .zero-board .ensures)
+    (c .before .before .before .before .before .before .before .before .before .before .before .before .line-sizes .ensures)
+    (c .before .before .before .before .before .before .before .before .before .before .record-refusal .ensures)
+    _ _ _
+    (c .before .before .before .before .before .before .before .before .before .if1 .left)
+    (c .before .before .before .before .before .before .before .read-unit .ensures)
+    (c .before .before .before .before .blank-line .ensures)
+    (c .before .before .finish .ensures .1)
+    (c .before .before .finish .ensures .0)
 
 line-bytes-requires : tie.Need-line-bytes-requires
-line-bytes-requires c κs = search needs
+line-bytes-requires c κs = c .before .before .before .before .before .before .before .before .before .before .before .before .before .before .before .before .before .before .before .pre
 
 finish-requires-2 : tie.Need-finish-requires-2
 finish-requires-2 c κs = search needs
@@ -64,16 +73,16 @@ same-length-4 c = search needs
 same-length-5 : tie.Need-same-length-5
 same-length-5 c = search needs
 
-returns-4 : tie.Need-returns-4
-returns-4 c =
+returns-3 : tie.Need-returns-3
+returns-3 c =
     run-3 _ _ _ _ _ _ _ _ _ _ _
-    (c .before .before .before .before .before .before .before .before .before .before .before .before .before .before .before .before .before .before .before .before .if1 .left)
+    (c .before .before .before .before .before .before .before .before .before .before .before .before .before .before .before .before .before .before .before .before .before .before .before .before .before .before .before .before .pre)
     _ _ _
     (c .before .before .before .before .before .before .before .before .before .before .before .before .before .before .before .before .before .before .before .zero-board .ensures)
     (c .before .before .before .before .before .before .before .before .before .before .before .before .before .before .before .before .before .before .line-sizes .ensures)
     (c .before .before .before .before .before .before .before .before .before .before .before .before .before .before .before .before .record-refusal .ensures)
     _ _ _ _ _
-    (c .before .before .before .before .before .before .before .before .before .before .before .before .before .before .before .if2 .left)
+    (c .before .before .before .before .before .before .before .before .before .before .before .before .before .before .before .if1 .left)
     (c .before .before .before .before .before .before .before .before .before .before .before .before .before .read-unit .ensures)
     (c .before .before .before .before .before .before .before .before .line-bytes .ensures)
     (c .before .before .finish2 .ensures .1)
@@ -83,21 +92,20 @@ pub line-record-spec : {M : Type 1} → statement M
 line-record-spec =
     tie.close
     (tie.spec
-    returns
     zero-board-requires
     line-sizes-requires
     record-refusal-requires
     cast-result
     same-length
-    returns-2
+    returns
     read-unit-requires
     blank-line-requires
     finish-requires
     same-length-2
-    returns-3
+    returns-2
     line-bytes-requires
     finish-requires-2
     same-length-3
     same-length-4
     same-length-5
-    returns-4)
+    returns-3)

@@ -7,6 +7,9 @@ use Rattle.ppu.proofs.ppu_run.Lts as lts
 use Rattle.ppu.proofs.line_record.Reads as line-record-reads
 use Rattle.ppu.proofs.run_record.Reads as run-record-reads
 
+returns : tie.Need-returns
+returns c = search run-cases
+
 line-record-requires : tie.Need-line-record-requires
 line-record-requires c κs = search needs
 
@@ -19,8 +22,8 @@ same-length-2 c = search needs
 same-length-3 : tie.Need-same-length-3
 same-length-3 c = search needs
 
-returns : tie.Need-returns
-returns c = search run-cases
+returns-2 : tie.Need-returns-2
+returns-2 c = search run-cases
 
 run-record-requires : tie.Need-run-record-requires
 run-record-requires c κs = search needs
@@ -34,20 +37,21 @@ same-length-5 c = search needs
 same-length-6 : tie.Need-same-length-6
 same-length-6 c = search needs
 
-returns-2 : tie.Need-returns-2
-returns-2 c = search needs
+returns-3 : tie.Need-returns-3
+returns-3 c = search needs
 
 pub ppu-run-spec : {M : Type 1} → statement M
 ppu-run-spec =
     tie.close
     (tie.spec
+    returns
     line-record-requires
     same-length
     same-length-2
     same-length-3
-    returns
+    returns-2
     run-record-requires
     same-length-4
     same-length-5
     same-length-6
-    returns-2)
+    returns-3)

@@ -1,5 +1,5 @@
 use mathlib.Core.Path.{refl}
-use Rattle.ppu.proofs.Cases.{run-cases, run-2, run-3}
+use Rattle.ppu.proofs.Cases.{run-2, run-3}
 use Rattle.model.proofs.Accepted.{form-long}
 use borrow.Author.Needs.{needs}
 use Rattle.ppu.proofs.run_record.Statement.{statement}
@@ -12,9 +12,6 @@ use Rattle.refusals.proofs.line_sizes.Reads as line-sizes-reads
 use Rattle.refusals.proofs.record_refusal.Reads as record-refusal-reads
 use Rattle.refusals.proofs.zero_board.Reads as zero-board-reads
 use Rattle.runs.proofs.run_bytes.Reads as run-bytes-reads
-
-returns : tie.Need-returns
-returns c = search run-cases
 
 zero-board-requires : tie.Need-zero-board-requires
 zero-board-requires c κs = search needs
@@ -31,15 +28,15 @@ cast-result c = search needs
 same-length : tie.Need-same-length
 same-length c = search needs
 
-returns-2 : tie.Need-returns-2
-returns-2 c =
+returns : tie.Need-returns
+returns c =
     run-2 _ _ _ _ _ _ _ _ _ _ _
-    (c .before .before .before .before .before .if1 .left)
+    (c .before .before .before .before .before .before .before .before .before .before .before .before .before .pre)
     _ _ _
     (c .before .before .before .before .zero-board .ensures)
     (c .before .before .before .line-sizes .ensures)
     (c .before .record-refusal .ensures)
-    (c .if2 .taken)
+    (c .if1 .taken)
     refl
 
 read-unit-requires : tie.Need-read-unit-requires
@@ -60,16 +57,16 @@ same-length-3 c = search needs
 same-length-4 : tie.Need-same-length-4
 same-length-4 c = search needs
 
-returns-3 : tie.Need-returns-3
-returns-3 c =
+returns-2 : tie.Need-returns-2
+returns-2 c =
     run-3 _ _ _ _ _ _ _ _ _ _ _
-    (c .before .before .before .before .before .before .before .before .before .before .before .before .before .before .before .before .before .before .if1 .left)
+    (c .before .before .before .before .before .before .before .before .before .before .before .before .before .before .before .before .before .before .before .before .before .before .before .before .before .before .pre)
     _ _ _
     (c .before .before .before .before .before .before .before .before .before .before .before .before .before .before .before .before .before .zero-board .ensures)
     (c .before .before .before .before .before .before .before .before .before .before .before .before .before .before .before .before .line-sizes .ensures)
     (c .before .before .before .before .before .before .before .before .before .before .before .before .before .before .record-refusal .ensures)
     _ _ _ _ _
-    (c .before .before .before .before .before .before .before .before .before .before .before .before .before .if2 .left)
+    (c .before .before .before .before .before .before .before .before .before .before .before .before .before .if1 .left)
     (c .before .before .before .before .before .before .before .before .before .before .before .read-unit .ensures)
     (c .before .before .before .before .before .before .before .before .run-bytes .ensures)
     (c .before .before .finish .ensures .1)
@@ -79,17 +76,16 @@ pub run-record-spec : {M : Type 1} → statement M
 run-record-spec =
     tie.close
     (tie.spec
-    returns
     zero-board-requires
     line-sizes-requires
     record-refusal-requires
     cast-result
     same-length
-    returns-2
+    returns
     read-unit-requires
     run-bytes-requires
     finish-requires
     same-length-2
     same-length-3
     same-length-4
-    returns-3)
+    returns-2)

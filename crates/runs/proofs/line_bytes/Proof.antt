@@ -1,4 +1,4 @@
-use Rattle.runs.proofs.Cases.{run-cases, run-done, line-long, line-formed}
+use Rattle.runs.proofs.Cases.{run-refused, run-done, line-long, line-formed}
 use borrow.Author.Needs.{needs}
 use Rattle.runs.proofs.line_bytes.Statement.{statement}
 use Rattle.runs.proofs.line_bytes.Tie as tie
@@ -10,27 +10,21 @@ use Rattle.scanline.proofs.one_line.Reads as one-line-reads
 use Rattle.unit.proofs.ran.Reads as ran-reads
 use Rattle.unit.proofs.refused.Reads as refused-reads
 
-refused-requires : tie.Need-refused-requires
-refused-requires c κs = search needs
-
-returns : tie.Need-returns
-returns c = search run-cases
-
 line-sizes-requires : tie.Need-line-sizes-requires
 line-sizes-requires c κs = search needs
 
 plain-refusal-requires : tie.Need-plain-refusal-requires
 plain-refusal-requires c κs = search needs
 
-refused-requires-2 : tie.Need-refused-requires-2
-refused-requires-2 c κs = search needs
+refused-requires : tie.Need-refused-requires
+refused-requires c κs = search needs
 
-returns-2 : tie.Need-returns-2
-returns-2 c = search run-cases
+returns : tie.Need-returns
+returns c = search run-refused
 
 one-line-requires : tie.Need-one-line-requires
 one-line-requires c κs =
-    (line-long _ _ _ _ _ _ _ _ _ _ (c .before .before .before .before .line-sizes .ensures) (c .before .before .before .plain-refusal .ensures) (c .before .before .if2 .left), search line-formed)
+    (line-long _ _ _ _ _ _ _ _ _ _ (c .before .before .before .before .line-sizes .ensures) (c .before .before .before .plain-refusal .ensures) (c .before .before .if1 .left), search line-formed)
 
 ran-requires : tie.Need-ran-requires
 ran-requires c κs = search needs
@@ -41,14 +35,14 @@ same-length c = search needs
 same-length-2 : tie.Need-same-length-2
 same-length-2 c = search needs
 
-returns-3 : tie.Need-returns-3
-returns-3 c =
+returns-2 : tie.Need-returns-2
+returns-2 c =
     run-done _ _ _ _ _ _ _ _ _ _
     (c .before .before .before .before .before .before .before .before .before .before .before .line-sizes .ensures)
     (c .before .before .before .before .before .before .before .before .before .before .plain-refusal .ensures)
     _ _ _ _ _ _ _ _
-    (c .before .before .before .before .before .before .before .before .before .before .before .before .before .if1 .left)
-    (c .before .before .before .before .before .before .before .before .before .if2 .left)
+    (c .before .before .before .before .before .before .before .before .before .before .before .before .before .before .before .before .before .before .before .before .pre)
+    (c .before .before .before .before .before .before .before .before .before .if1 .left)
     (c .before .before .before .before .before .before .one-line .ensures)
     (c .ran .ensures)
 
@@ -56,14 +50,12 @@ pub line-bytes-spec : {M : Type 1} → statement M
 line-bytes-spec =
     tie.close
     (tie.spec
-    refused-requires
-    returns
     line-sizes-requires
     plain-refusal-requires
-    refused-requires-2
-    returns-2
+    refused-requires
+    returns
     one-line-requires
     ran-requires
     same-length
     same-length-2
-    returns-3)
+    returns-2)

@@ -3,8 +3,8 @@
 //!     write address=2007 byte=41 unit=0000..09 oam:255 left@0010=80FF
 //!
 //! `NAME:N` lends another length than the right one; `NAME@OFFSET=BYTES` are bytes that are not
-//! zero, `BYTES*N` being N times the same; all else is zero. Lengths, `N`, `most` and `scanline` are
-//! decimal, all else is hex.
+//! zero, `BYTES*N` being N times the same; all else is zero. Lengths, `N`, `most`, `reason` and `scanline`
+//! are decimal, all else is hex.
 
 use crate::world::{Call, Kind, Name, World, LENGTHS, SLACK};
 use std::fmt::Write;
@@ -80,9 +80,9 @@ impl Case {
             Kind::Fresh => write!(text, " board={:02X}", call.byte).unwrap(),
             Kind::Read => write!(text, " address={:04X}", call.address).unwrap(),
             Kind::Write => write!(text, " address={:04X} byte={:02X}", call.address, call.byte).unwrap(),
-            Kind::Run => write!(text, " most={}", call.most).unwrap(),
+            Kind::Run => write!(text, " most={} reason={}", call.most, call.reason).unwrap(),
             Kind::Search => write!(text, " scanline={}", call.scanline).unwrap(),
-            Kind::Dma | Kind::Line | Kind::Play | Kind::Text | Kind::Page => {}
+            Kind::Dma | Kind::Play | Kind::Text | Kind::Page => {}
         }
         for name in Name::ALL {
             let length = call.lengths[name as usize];
@@ -130,6 +130,7 @@ impl Case {
             "board" | "byte" => self.call.byte = u8::from_str_radix(value, 16).ok()?,
             "address" => self.call.address = u16::from_str_radix(value, 16).ok()?,
             "most" => self.call.most = value.parse().ok()?,
+            "reason" => self.call.reason = value.parse().ok()?,
             "scanline" => self.call.scanline = value.parse().ok()?,
             _ => {
                 let (memory, offset) = left.split_once('@').unwrap_or((left, "0"));
@@ -191,14 +192,12 @@ impl Case {
         let mut text = format!("case: {}\n", self.text());
         for (side, (answer, world)) in [("library", &outcome.library), ("second ", &outcome.second)] {
             let (number, byte, nmi) = (answer & 255, answer >> 8 & 255, answer >> 16 & 1);
-            let (looked, count, rest) = (answer >> 24 & 255, answer >> 32, answer >> 17 & 0x7F);
-            write!(
-                text,
-                "{side}: number {number}, byte {byte:02X}, count {count}, nmi {nmi}, looked {looked}"
-            )
-            .unwrap();
+            let (met, rest) = (answer >> 17 & 1, answer >> 18 & 0x3F);
+            let (looked, count) = (answer >> 24 & 255, answer >> 32);
+            write!(text, "{side}: number {number}, byte {byte:02X}, count {count}, met {met}").unwrap();
+            write!(text, ", nmi {nmi}, looked {looked}").unwrap();
             if rest != 0 {
-                write!(text, ", bits 17 to 23 {rest:02X}").unwrap();
+                write!(text, ", bits 18 to 23 {rest:02X}").unwrap();
             }
             if self.call.kind.has_unit() {
                 write!(text, ", unit {}", hex(&world.of(Name::Unit)[..16])).unwrap();

@@ -1,10 +1,12 @@
 //! Sessions of the finished colours: through all values of what makes them.
 
 use crate::random::Random;
+use crate::runs::{known_reason, one_line};
 use crate::scenery;
 use crate::systematic::{refill, unit_at_line};
 use crate::trial::{Stop, Trial};
 use crate::world::{Call, Name};
+use second::calls::{RUN_ALL, UNTIL_HIT, UNTIL_NMI};
 
 /// Greyscale off and on with each emphasis: mask bits 0 and 7-5.
 pub const TONES: usize = 16;
@@ -49,7 +51,8 @@ pub fn masks(trial: &mut Trial, random: &mut Random, part: usize) -> Result<(), 
                 let mut unit = with_v(unit_at_line(random, line), v);
                 unit[1] = mask;
                 set_run(trial, random.pick(&[1, 1, 2]));
-                for call in [Call::line(), Call::run(random.pick(&[1, 1, 2])), Call::play()] {
+                let run = Call::run(random.pick(&[1, 1, 2]), known_reason(random));
+                for call in [one_line(random), run, Call::play()] {
                     stain(trial, random);
                     trial.set(Name::Unit, &unit);
                     trial.call(&call)?;
@@ -94,12 +97,12 @@ pub fn palette_bytes(trial: &mut Trial, random: &mut Random, part: usize) -> Res
         trial.set(Name::Palette, &palette);
         for v in std::iter::once(random.below(0x3F00)).chain(0x3F00..0x3F20) {
             trial.set(Name::Unit, &with_v(unit, v));
-            trial.call(&Call::line())?;
+            trial.call(&one_line(random))?;
         }
         set_all_numbers(trial, line);
         unit[1] |= 0x1E;
         trial.set(Name::Unit, &unit);
-        trial.call(&Call::line())?;
+        trial.call(&one_line(random))?;
         assert_eq!(numbers_shown(trial), each, "the pixel numbers shown");
     }
     Ok(())
@@ -117,7 +120,7 @@ pub fn v_of_a_line_off(trial: &mut Trial, random: &mut Random, part: usize) -> R
             let mut unit = with_v(unit_at_line(random, line as u16), v);
             unit[1] = mask & !SWITCHES;
             trial.set(Name::Unit, &unit);
-            trial.call(&Call::line())?;
+            trial.call(&one_line(random))?;
         }
     }
     Ok(())
@@ -136,7 +139,8 @@ pub fn last_lines(trial: &mut Trial, random: &mut Random, part: usize) -> Result
             let mut unit = unit_at_line(random, line);
             unit[1] = unit[1] & !SWITCHES | [0, 0x08, 0x10, 0x18][part];
             set_run(trial, lines);
-            for call in [Call::run(lines), Call::play()] {
+            let [all, nmi, hit] = [RUN_ALL, UNTIL_NMI, UNTIL_HIT].map(|reason| Call::run(lines, reason));
+            for call in [all, nmi, hit, Call::play()] {
                 stain(trial, random);
                 trial.set(Name::Oam, &scenery::oam(random, line));
                 trial.set(Name::Unit, &unit);

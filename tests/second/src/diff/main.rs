@@ -13,6 +13,7 @@ mod colours;
 mod mixed;
 mod overflow;
 mod random;
+mod runs;
 mod scenery;
 mod systematic;
 mod text;
@@ -25,12 +26,13 @@ use std::process::ExitCode;
 use std::sync::atomic::{AtomicBool, AtomicU64, Ordering};
 use std::sync::Mutex;
 use std::time::{Duration, Instant};
-use trial::{Stop, Tally, Trial, NUMBERS};
+use trial::{Runs, Stop, Tally, Trial, NUMBERS, REASONS};
 use world::Kind;
 
 const MIXED_CALLS: usize = 2000;
 const PICTURE_CALLS: usize = 500;
 const TEXT_CALLS: usize = 500;
+const RUN_CALLS: usize = 500;
 
 struct Options {
     seed: u64,
@@ -82,9 +84,10 @@ fn session(seed: u64, number: u64, trial: &mut Trial) -> Result<(), Stop> {
         }
         left -= parts;
     }
-    match left % 6 {
+    match left % 7 {
         0 | 3 => mixed::pictures(trial, &mut random, PICTURE_CALLS),
         5 => text::session(trial, &mut random, TEXT_CALLS),
+        6 => runs::session(trial, &mut random, RUN_CALLS),
         _ => mixed::session(trial, &mut random, MIXED_CALLS),
     }
 }
@@ -117,9 +120,6 @@ fn kept_cases(path: &str) -> Option<u64> {
     let mut played = 0;
     for line in lines {
         let case = Case::parse(line).unwrap_or_else(|| panic!("no case: {line}"));
-        if case.call.kind.runs_lines() && !library::LINES {
-            continue;
-        }
         if case.outcome().differs() {
             println!("DIFFERENCE in a kept case:");
             print!("{}", case.report());
@@ -176,17 +176,12 @@ fn print_tally(tally: &Tally) {
         println!("  {:6} {:9} calls: {} done{refused}", kind.text(), tally.of_kind(kind), answers[0]);
     }
     println!(
-        "  {} lines run, {} runs stopped early, {} runs of a log went on there, hit set {} times, overflow {}; pixels of line calls: {} sprite, {} background",
-        tally.lines_run,
-        tally.early_stops,
-        tally.went_on,
-        tally.hits,
-        tally.overflows,
-        tally.sprite_pixels,
-        tally.background_pixels
+        "  {} lines run, hit set {} times, overflow {}; pixels of runs of one line: {} sprite, {} background",
+        tally.lines_run, tally.hits, tally.overflows, tally.sprite_pixels, tally.background_pixels
     );
+    print_runs(tally);
     println!(
-        "  line calls on which bit 5 stays clear with nine sprites in range or more: {}, is set with fewer: {}",
+        "  runs of one line on which bit 5 stays clear with nine sprites in range or more: {}, is set with fewer: {}",
         tally.passed_over, tally.mistaken
     );
     println!(
@@ -196,7 +191,7 @@ fn print_tally(tally: &Tally) {
         tally.looked.values().min().unwrap_or(&0)
     );
     println!(
-        "  lines of the picture by line calls: {} in greyscale, {} with emphasis, {} with backdrop override",
+        "  lines of the picture by runs of one line: {} in greyscale, {} with emphasis, {} with backdrop override",
         tally.grey, tally.emphasis, tally.backdrop_override
     );
     println!(
@@ -206,19 +201,34 @@ fn print_tally(tally: &Tally) {
     );
 }
 
+/// What became of the runs, by their reason to stop.
+fn print_runs(tally: &Tally) {
+    for (reason, runs) in ["none", "NMI", "hit"].iter().zip(&tally.runs) {
+        println!(
+            "  runs, reason {reason}: {} met, {} of them on the last line asked for, {} not met; begun with bit 6 set: \
+             {} met, {} not met",
+            runs.met, runs.on_last, runs.not_met, runs.set_met, runs.set_not_met
+        );
+    }
+    println!("  {} runs of a log went on after line 241 with control bit 7 set", tally.went_on);
+}
+
+/// Runs for NMI and for a hit were met and were not, each in every way; those for no reason were not met.
+fn runs_are_whole([all, nmi, hit]: &[Runs; REASONS]) -> bool {
+    nmi.are_of_each_kind() && hit.are_of_each_kind() && all.not_met > 0 && all.met == 0
+}
+
 /// Each kind of call was done, and refused for each reason that it can be.
 fn is_whole(tally: &Tally) -> bool {
     let reasons = |kind| match kind {
-        Kind::Fresh | Kind::Dma | Kind::Line | Kind::Run => vec![0, 2, 3],
+        Kind::Fresh | Kind::Dma => vec![0, 2, 3],
         Kind::Read | Kind::Write => vec![0, 1, 2, 3, 4],
         Kind::Play => vec![0, 1, 2, 3, 4, 5],
-        Kind::Search => vec![0, 2, 3, 5],
+        Kind::Run | Kind::Search => vec![0, 2, 3, 5],
         Kind::Text => vec![0, 2],
         Kind::Page => vec![0, 2, 8],
     };
-    let asked = |kind: &Kind| library::LINES || !kind.runs_lines();
     let lines = [
-        tally.early_stops,
         tally.went_on,
         tally.hits,
         tally.overflows,
@@ -230,17 +240,15 @@ fn is_whole(tally: &Tally) -> bool {
         tally.emphasis,
         tally.backdrop_override,
     ];
-    Kind::ALL.into_iter().filter(asked).all(|k| reasons(k).iter().all(|&n| tally.answers[k as usize][n] > 0))
-        && (!library::LINES || lines.iter().all(|&n| n > 0))
+    Kind::ALL.into_iter().all(|k| reasons(k).iter().all(|&n| tally.answers[k as usize][n] > 0))
+        && lines.iter().all(|&n| n > 0)
+        && runs_are_whole(&tally.runs)
         && tally.looked.keys().copied().eq(9..=64)
         && tally.bare_tiles > 0
 }
 
 /// The kept cases, then the sessions, with a report of what was done.
 fn compare(options: &Options) -> ExitCode {
-    if !library::LINES {
-        println!("the archive has no ppu_line and ppu_run: fresh, accesses, sprite DMA and text only");
-    }
     if let Some(path) = &options.cases {
         let Some(played) = kept_cases(path) else { return ExitCode::FAILURE };
         println!("{played} kept cases, no difference");

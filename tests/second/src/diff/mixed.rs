@@ -1,6 +1,7 @@
 //! Random sessions: long ones with the record and the memory carried along, and drawn lines.
 
 use crate::random::Random;
+use crate::runs::one_line;
 use crate::scenery;
 use crate::systematic::{refill, some_call};
 use crate::trial::{Stop, Trial};
@@ -11,11 +12,11 @@ use Kind::*;
 /// What a session mostly does.
 const HABITS: [&[Kind]; 6] = [
     &[Read, Read, Read, Write, Write, Write, Write, Dma],
-    &[Read, Write, Write, Line, Line, Line, Line, Dma],
-    &[Read, Write, Line, Search, Search, Search, Dma],
-    &[Read, Read, Write, Write, Write, Line, Run, Dma],
-    &[Write, Line, Line, Run, Run],
-    &[Play, Play, Play, Play, Play, Play, Line, Dma],
+    &[Read, Write, Write, Run, Run, Run, Run, Dma],
+    &[Read, Write, Run, Search, Search, Search, Dma],
+    &[Read, Read, Write, Write, Write, Run, Run, Dma],
+    &[Write, Run, Run, Run, Run],
+    &[Play, Play, Play, Play, Play, Play, Run, Dma],
 ];
 
 pub fn session(trial: &mut Trial, random: &mut Random, calls: usize) -> Result<(), Stop> {
@@ -59,7 +60,7 @@ pub fn pictures(trial: &mut Trial, random: &mut Random, calls: usize) -> Result<
         trial.set(Name::Unit, &unit);
         scatter_sprites(trial, random, Name::Oam);
         trial.call(&Call::search(line))?;
-        trial.call(&Call::line())?;
+        trial.call(&one_line(random))?;
     }
     Ok(())
 }
@@ -127,9 +128,12 @@ pub fn mislength(random: &mut Random, call: &mut Call) {
     }
 }
 
-/// Short runs where pixels are drawn, any where they are not.
+/// A single line, or else short runs where pixels are drawn and any where they are not.
 fn run_length(trial: &Trial, random: &mut Random) -> u16 {
     let drawn = trial.unit()[1] & 0x18 != 0;
+    if random.one_in(2) {
+        return 1;
+    }
     match random.below(if drawn { 80 } else { 8 }) {
         0 => random.below(300) as u16,
         1 if !drawn => random.below(3000) as u16,

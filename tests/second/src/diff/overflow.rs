@@ -1,10 +1,12 @@
 //! Sessions of the search for overflow: through all values of what it looks at, and lines beside it.
 
 use crate::random::Random;
+use crate::runs::one_line;
 use crate::scenery::{self, crowd, in_range, is_in_range, out_of_range, sprite_height};
 use crate::systematic::{random_slots, refill, unit_at_line};
 use crate::trial::{Stop, Trial};
 use crate::world::{Call, Kind, Name, SLACK};
+use second::calls::RUN_ALL;
 
 const SPRITES: usize = 64;
 const OVERFLOW: u8 = 0x20;
@@ -25,7 +27,7 @@ fn is_set_by_line(trial: &mut Trial, random: &mut Random) -> Result<bool, Stop> 
     unit[1] = unit[1] & !SWITCHES | random.pick(&[0x08, 0x10, 0x18]);
     unit[2] &= !OVERFLOW;
     trial.set(Name::Unit, &unit);
-    trial.call(&Call::line())?;
+    trial.call(&one_line(random))?;
     Ok(trial.unit()[2] & OVERFLOW != 0)
 }
 
@@ -171,9 +173,8 @@ fn search_and_lines(trial: &mut Trial, random: &mut Random, line: u16) -> Result
     assert!(is_set || !ends, "line {line}: the search ends, and the line does not set the bit");
     unit[1] &= !SWITCHES;
     trial.set(Name::Unit, &unit);
-    trial.call(&Call::line())?;
+    trial.call(&one_line(random))?;
     assert_eq!(trial.unit()[2], unit[2], "the status after line {line}, which is off");
-    unit[0] &= 0x7F;
     unit[1] |= SWITCHES;
     unit[2] &= !OVERFLOW;
     trial.set(Name::Unit, &unit);
@@ -182,7 +183,7 @@ fn search_and_lines(trial: &mut Trial, random: &mut Random, line: u16) -> Result
     for next in line..240.min(line + lines) {
         ends |= looked(trial, next)? < 64;
     }
-    trial.call(&Call::run(lines))?;
+    trial.call(&Call::run(lines, RUN_ALL))?;
     assert!(trial.unit()[2] & OVERFLOW != 0 || !ends, "a run of {lines} from line {line}");
     Ok(())
 }

@@ -3,6 +3,7 @@
 use crate::colours;
 use crate::overflow;
 use crate::random::Random;
+use crate::runs::{self, one_line, some_reason};
 use crate::scenery;
 use crate::text;
 use crate::trial::{Stop, Trial};
@@ -11,7 +12,7 @@ use crate::world::{Call, Kind, Name, KINDS, SLACK, UNIT_KINDS};
 pub type Session = fn(&mut Trial, &mut Random, usize) -> Result<(), Stop>;
 
 /// Each kind of session, with the number of parts that it comes in.
-pub const SESSIONS: [(&str, Session, usize); 40] = [
+pub const SESSIONS: [(&str, Session, usize); 42] = [
     ("boards", boards, 1),
     ("addresses", addresses, 16),
     ("ports", ports, 8),
@@ -28,7 +29,9 @@ pub const SESSIONS: [(&str, Session, usize); 40] = [
     ("sprite rows", sprite_rows, 8),
     ("sprite columns", sprite_columns, 8),
     ("sprites in number", sprites_in_number, 4),
-    ("runs", runs, 8),
+    ("bounds of runs", runs::bounds, 8),
+    ("runs to a hit", runs::hits, 8),
+    ("reasons to stop", runs::reasons, 4),
     ("kinds of a log", kinds_of_a_log, 1),
     ("words of a log", words_of_a_log, 16),
     ("runs of a log", runs_of_a_log, 8),
@@ -103,8 +106,7 @@ pub fn some_call(trial: &mut Trial, random: &mut Random, kind: Kind) -> Call {
         Kind::Read => Call::read(address),
         Kind::Write => Call::write(address, random.byte()),
         Kind::Dma => Call::dma(),
-        Kind::Line => Call::line(),
-        Kind::Run => Call::run(random.below(6) as u16),
+        Kind::Run => Call::run(random.pick(&[0, 1, 1, 1, 2, 3, 4, 5]), some_reason(random)),
         Kind::Play => {
             trial.set(Name::Log, &scenery::log_record(random, address));
             Call::play()
@@ -228,16 +230,19 @@ fn records(trial: &mut Trial, random: &mut Random, kind: usize) -> Result<(), St
 /// Every 16-bit value of v, t or next line.
 fn wide_fields(trial: &mut Trial, random: &mut Random, part: usize) -> Result<(), Stop> {
     let at = [4, 6, 12][part % 3];
-    let kind = [Kind::Read, Kind::Write, Kind::Dma, Kind::Line, Kind::Search][part / 3];
+    let kind = [Kind::Read, Kind::Write, Kind::Dma, Kind::Run, Kind::Search][part / 3];
     refill(trial, random);
     for value in 0..=65535u16 {
         let mut unit = scenery::unit(random);
         unit[at..at + 2].copy_from_slice(&value.to_le_bytes());
-        if kind == Kind::Line && at != 12 {
+        if kind == Kind::Run && at != 12 {
             unit[12..14].copy_from_slice(&261u16.to_le_bytes());
         }
         trial.set(Name::Unit, &unit);
-        let call = some_call(trial, random, kind);
+        let call = match kind {
+            Kind::Run => one_line(random),
+            _ => some_call(trial, random, kind),
+        };
         trial.call(&call)?;
     }
     Ok(())
@@ -325,7 +330,7 @@ fn lines_and_masks(trial: &mut Trial, random: &mut Random, part: usize) -> Resul
             unit[1] = mask;
             trial.set(Name::Unit, &unit);
             trial.set(Name::Oam, &scenery::oam(random, line));
-            trial.call(&Call::line())?;
+            trial.call(&one_line(random))?;
         }
     }
     Ok(())
@@ -344,7 +349,7 @@ fn v_on_a_line(trial: &mut Trial, random: &mut Random, part: usize) -> Result<()
         unit[4..6].copy_from_slice(&v.to_le_bytes());
         unit[8] = (v / 16 % 8) as u8;
         trial.set(Name::Unit, &unit);
-        trial.call(&Call::line())?;
+        trial.call(&one_line(random))?;
     }
     Ok(())
 }
@@ -367,7 +372,7 @@ fn sprite_rows(trial: &mut Trial, random: &mut Random, part: usize) -> Result<()
             oam[4 * slot..4 * slot + 4].copy_from_slice(&[y as u8, random.byte(), attributes, random.byte()]);
             trial.set(Name::Unit, &unit);
             trial.set(Name::Oam, &oam);
-            trial.call(&Call::line())?;
+            trial.call(&one_line(random))?;
         }
     }
     Ok(())
@@ -392,7 +397,7 @@ fn sprite_columns(trial: &mut Trial, random: &mut Random, part: usize) -> Result
             oam[4 * slot..4 * slot + 4].copy_from_slice(&[y, random.byte(), random.byte(), beside]);
             trial.set(Name::Unit, &unit);
             trial.set(Name::Oam, &oam);
-            trial.call(&Call::line())?;
+            trial.call(&one_line(random))?;
         }
     }
     Ok(())
@@ -419,7 +424,7 @@ fn sprites_in_number(trial: &mut Trial, random: &mut Random, part: usize) -> Res
             }
             trial.set(Name::Unit, &unit);
             trial.set(Name::Oam, &oam);
-            trial.call(&Call::line())?;
+            trial.call(&one_line(random))?;
         }
     }
     Ok(())
@@ -433,41 +438,6 @@ pub fn random_slots(random: &mut Random, number: usize, first: usize) -> Vec<usi
     }
     slots.truncate(number);
     slots
-}
-
-/// Runs from every line, of lengths about each bound, stopping early or not.
-fn runs(trial: &mut Trial, random: &mut Random, part: usize) -> Result<(), Stop> {
-    for line in (part as u16..262).step_by(8) {
-        refill(trial, random);
-        let stop = (241 + 262 - line) % 262 + 1;
-        let bounds = [0, 1, 2, stop - 1, stop, stop + 1, 241, 242, 261, 262, 263, 523, 524, 525];
-        for most in bounds {
-            for bits in 0..4 {
-                let mut unit = unit_at_line(random, line);
-                unit[0] = unit[0] & 0x7F | (bits & 1) << 7;
-                if !random.one_in(8) {
-                    unit[1] &= !0x18;
-                }
-                trial.set(Name::Unit, &unit);
-                trial.call(&Call::run(most))?;
-            }
-        }
-    }
-    for most in [1000, 32767, 32768, 65534, 65535] {
-        let mut unit = scenery::unit(random);
-        unit[0] = unit[0] & 0x7F | (part as u8 & 1) << 7;
-        unit[1] &= !0x18;
-        trial.set(Name::Unit, &unit);
-        trial.call(&Call::run(most))?;
-    }
-    if part == 0 {
-        let mut unit = scenery::unit(random);
-        unit[0] &= 0x7F;
-        unit[1] |= 0x18;
-        trial.set(Name::Unit, &unit);
-        trial.call(&Call::run(65535))?;
-    }
-    Ok(())
 }
 
 /// Every kind byte with last bytes that must be 0 and are not, in logs of every length from 0 to 12.

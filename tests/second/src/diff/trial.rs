@@ -18,24 +18,72 @@ pub enum Stop {
 /// Numbers that a call can answer, 6 and 7 being none.
 pub const NUMBERS: usize = 9;
 
+/// Reasons to stop that a run can have, none among them.
+pub const REASONS: usize = 3;
+const HIT: u8 = 0x40;
+
+/// What became of the runs of one reason, those of no line among them.
+#[derive(Clone, Copy, Default)]
+pub struct Runs {
+    pub met: u64,
+    pub not_met: u64,
+    /// Met on the last line that was asked for, and met on a line before it.
+    pub on_last: u64,
+    pub before_last: u64,
+    /// Begun with status bit 6 set: met, and not met.
+    pub set_met: u64,
+    pub set_not_met: u64,
+}
+
+impl Runs {
+    fn add(&mut self, other: &Runs) {
+        self.met += other.met;
+        self.not_met += other.not_met;
+        self.on_last += other.on_last;
+        self.before_last += other.before_last;
+        self.set_met += other.set_met;
+        self.set_not_met += other.set_not_met;
+    }
+
+    /// Counts a run of up to `most` lines; `before` is the record before it.
+    fn count(&mut self, most: u16, answer: u64, before: &[u8; 16]) {
+        let (met, last) = (answer >> 17 & 1, u64::from(answer >> 32 == most.into()));
+        let set = u64::from(before[2] & HIT != 0);
+        self.met += met;
+        self.not_met += 1 - met;
+        self.on_last += met & last;
+        self.before_last += met & (1 - last);
+        self.set_met += set & met;
+        self.set_not_met += set & (1 - met);
+    }
+
+    /// The reason was met and was not, on the last line and before it, from either value of bit 6.
+    pub fn are_of_each_kind(&self) -> bool {
+        let set = [self.set_met, self.set_not_met];
+        let clear = [self.met - self.set_met, self.not_met - self.set_not_met];
+        [set, clear, [self.on_last, self.before_last]].iter().flatten().all(|&number| number > 0)
+    }
+}
+
 /// What has been done, by kind of call and number answered.
 #[derive(Clone, Default)]
 pub struct Tally {
     pub answers: [[u64; NUMBERS]; KINDS],
     pub lines_run: u64,
-    pub early_stops: u64,
+    /// Runs that were done, by their reason to stop.
+    pub runs: [Runs; REASONS],
     /// Runs of a log that went on after line 241 although control bit 7 was set.
     pub went_on: u64,
     pub hits: u64,
     pub overflows: u64,
-    /// Line calls that did not raise bit 5 with nine sprites in range or more, and that did with fewer.
+    /// Runs of one line that did not raise bit 5 with nine sprites in range or more, and that did with fewer.
     pub passed_over: u64,
     pub mistaken: u64,
     /// Searches by the number of sprites that they looked at.
     pub looked: BTreeMap<u64, u64>,
     pub sprite_pixels: u64,
     pub background_pixels: u64,
-    /// Line calls of lines 0 to 239 with mask bit 0 set, with one of bits 7-5, and off with v in the palette.
+    /// Runs of one line of the picture with mask bit 0, with one of bits 7-5, and off with v in the palette.
     pub grey: u64,
     pub emphasis: u64,
     pub backdrop_override: u64,
@@ -49,7 +97,9 @@ impl Tally {
             *mine += theirs;
         }
         self.lines_run += other.lines_run;
-        self.early_stops += other.early_stops;
+        for (mine, theirs) in self.runs.iter_mut().zip(&other.runs) {
+            mine.add(theirs);
+        }
         self.went_on += other.went_on;
         self.hits += other.hits;
         self.overflows += other.overflows;
@@ -112,9 +162,6 @@ impl<'a> Trial<'a> {
 
     /// The call on both sides; its packed answer if they agree in all.
     pub fn call(&mut self, call: &Call) -> Result<u64, Stop> {
-        if call.kind.runs_lines() && !library::LINES {
-            return Ok(0);
-        }
         if self.until == Some(self.calls) {
             let case = Case { call: call.clone(), before: self.library.clone() };
             return Err(Stop::Reached(Box::new(case)));
@@ -138,33 +185,46 @@ impl<'a> Trial<'a> {
     }
 
     fn count(&mut self, call: &Call, answer: u64, before: &[u8; 16]) {
-        let tally = &mut self.tally;
-        tally.answers[call.kind as usize][(answer & 255) as usize] += 1;
-        match (call.kind, answer >> 32) {
-            (Kind::Text, bare_tiles) => tally.bare_tiles += bare_tiles,
-            (Kind::Search, _) if answer & 255 != 0 => {}
-            (Kind::Search, _) => *tally.looked.entry(answer >> 24 & 255).or_default() += 1,
-            (_, 0) => {}
-            (_, lines) => self.count_lines(call, lines, before),
+        let (tally, number) = (&mut self.tally, (answer & 255) as usize);
+        tally.answers[call.kind as usize][number] += 1;
+        if number != 0 {
+            return;
+        }
+        match call.kind {
+            Kind::Text => tally.bare_tiles += answer >> 32,
+            Kind::Search => *tally.looked.entry(answer >> 24 & 255).or_default() += 1,
+            Kind::Run => {
+                tally.runs[usize::from(call.reason)].count(call.most, answer, before);
+                self.count_lines(answer >> 32, before);
+                if call.most == 1 && next_line(before) < 240 {
+                    self.count_line(before);
+                }
+            }
+            Kind::Play => {
+                let to_241 = (241 + 262 - u64::from(next_line(before))) % 262 + 1;
+                tally.went_on += u64::from(before[0] & 0x80 != 0 && answer >> 32 > to_241);
+                self.count_lines(answer >> 32, before);
+            }
+            Kind::Fresh | Kind::Read | Kind::Write | Kind::Dma | Kind::Page => {}
         }
     }
 
     /// Counts what lines did; `before` is the record before them.
-    fn count_lines(&mut self, call: &Call, lines: u64, before: &[u8; 16]) {
-        let (tally, unit) = (&mut self.tally, self.library.of(Name::Unit));
-        let raised = unit[2] & !before[2];
-        let to_241 = (241 + 262 - u64::from(next_line(before))) % 262 + 1;
-        tally.lines_run += lines;
-        tally.early_stops += u64::from(call.kind == Kind::Run && lines < call.most.into());
-        tally.went_on += u64::from(call.kind == Kind::Play && before[0] & 0x80 != 0 && lines > to_241);
-        tally.hits += u64::from(raised >> 6 & 1);
-        tally.overflows += u64::from(raised >> 5 & 1);
-        if call.kind == Kind::Line && next_line(before) < 240 {
-            tally.grey += u64::from(before[1] & 1);
-            tally.emphasis += u64::from(before[1] >> 5 != 0);
-            tally.backdrop_override += u64::from(before[1] & 0x18 == 0 && before[5] & 0x3F == 0x3F);
-        }
-        if call.kind == Kind::Line && unit[1] & 0x18 != 0 {
+    fn count_lines(&mut self, lines: u64, before: &[u8; 16]) {
+        let raised = self.library.of(Name::Unit)[2] & !before[2];
+        self.tally.lines_run += lines;
+        self.tally.hits += u64::from(raised >> 6 & 1);
+        self.tally.overflows += u64::from(raised >> 5 & 1);
+    }
+
+    /// Counts a line of the picture that was run by itself.
+    fn count_line(&mut self, before: &[u8; 16]) {
+        let tally = &mut self.tally;
+        let drawn = before[1] & 0x18 != 0;
+        tally.grey += u64::from(before[1] & 1);
+        tally.emphasis += u64::from(before[1] >> 5 != 0);
+        tally.backdrop_override += u64::from(!drawn && before[5] & 0x3F == 0x3F);
+        if drawn {
             let line = &self.library.of(Name::Line)[..256];
             tally.sprite_pixels += line.iter().filter(|&&p| p >= 16).count() as u64;
             tally.background_pixels += line.iter().filter(|&&p| p > 0 && p < 16).count() as u64;
@@ -178,7 +238,7 @@ impl<'a> Trial<'a> {
         let sprites = self.library.of(Name::Oam)[..256].chunks(4);
         let are_many = sprites.filter(|sprite| is_in_range(sprite[0], line, height)).count() > 8;
         let is_set = self.library.of(Name::Unit)[2] & 0x20 != 0;
-        if line < 240 && before[2] & 0x20 == 0 {
+        if before[2] & 0x20 == 0 {
             self.tally.passed_over += u64::from(are_many && !is_set);
             self.tally.mistaken += u64::from(!are_many && is_set);
         }

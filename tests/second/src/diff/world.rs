@@ -1,5 +1,7 @@
 //! The memories that a call is lent, and the calls themselves, on either side.
 
+use second::calls::RUN_ALL;
+
 /// The memories, in the order in which calls name them.
 #[derive(Clone, Copy, Debug, PartialEq, Eq)]
 pub enum Name {
@@ -110,7 +112,6 @@ pub enum Kind {
     Read,
     Write,
     Dma,
-    Line,
     Run,
     Play,
     /// The search for overflow.
@@ -122,7 +123,7 @@ pub enum Kind {
 }
 
 /// The calls on a unit, which come first, and all.
-pub const UNIT_KINDS: usize = 8;
+pub const UNIT_KINDS: usize = 7;
 pub const KINDS: usize = UNIT_KINDS + 2;
 
 impl Kind {
@@ -131,7 +132,6 @@ impl Kind {
         Kind::Read,
         Kind::Write,
         Kind::Dma,
-        Kind::Line,
         Kind::Run,
         Kind::Play,
         Kind::Search,
@@ -140,7 +140,7 @@ impl Kind {
     ];
 
     pub fn text(self) -> &'static str {
-        ["fresh", "read", "write", "dma", "line", "run", "play", "search", "text", "page"][self as usize]
+        ["fresh", "read", "write", "dma", "run", "play", "search", "text", "page"][self as usize]
     }
 
     /// The memories that such a call is lent.
@@ -149,7 +149,7 @@ impl Kind {
             Kind::Fresh => &[Unit],
             Kind::Read | Kind::Write => &[Unit, Left, Right, Nametables, Oam, Palette],
             Kind::Dma => &[Unit, Oam, Page],
-            Kind::Line | Kind::Run => &[Unit, Left, Right, Nametables, Oam, Palette, Line, Colours],
+            Kind::Run => &[Unit, Left, Right, Nametables, Oam, Palette, Line, Colours],
             Kind::Play => &[Unit, Log, Left, Right, Nametables, Oam, Palette, Line, Colours],
             Kind::Search => &[Unit, Oam],
             Kind::Text | Kind::Page => &[Screen, Rows, Table],
@@ -160,21 +160,17 @@ impl Kind {
     pub fn has_unit(self) -> bool {
         self.lent().contains(&Unit)
     }
-
-    /// Line and run, which an archive may not have yet.
-    pub fn runs_lines(self) -> bool {
-        matches!(self, Kind::Line | Kind::Run)
-    }
 }
 
-/// A call and its arguments; `byte` is the board of fresh, `most` the lines of run, `scanline` the line of
-/// search. What play plays stands in the log that it is lent.
+/// A call and its arguments; `byte` is the board of fresh, `most` and `reason` are the lines of run and its
+/// reason to stop, `scanline` is the line of search. What play plays stands in the log that it is lent.
 #[derive(Clone, Debug, PartialEq, Eq)]
 pub struct Call {
     pub kind: Kind,
     pub address: u16,
     pub byte: u8,
     pub most: u16,
+    pub reason: u8,
     pub scanline: u16,
     pub lengths: [usize; NAMES],
 }
@@ -206,9 +202,9 @@ macro_rules! performed {
                 side::write(unit, call.address, call.byte, left, right, nametables, oam, palette).into()
             }
             Kind::Dma => side::dma(unit, oam, page).into(),
-            Kind::Line => side::line(unit, left, right, nametables, oam, palette, line, colours).into(),
             Kind::Run => {
-                side::run(unit, call.most, left, right, nametables, oam, palette, line, colours).into()
+                let (most, reason) = (call.most, call.reason);
+                side::run(unit, most, reason, left, right, nametables, oam, palette, line, colours).into()
             }
             Kind::Play => side::play(unit, log, left, right, nametables, oam, palette, line, colours).into(),
             Kind::Search => side::search(unit, call.scanline, oam).into(),
@@ -220,7 +216,7 @@ macro_rules! performed {
 
 impl Call {
     pub fn new(kind: Kind) -> Call {
-        Call { kind, address: 0x2000, byte: 0, most: 0, scanline: 0, lengths: LENGTHS }
+        Call { kind, address: 0x2000, byte: 0, most: 0, reason: RUN_ALL, scanline: 0, lengths: LENGTHS }
     }
 
     pub fn fresh(board: u8) -> Call {
@@ -239,12 +235,8 @@ impl Call {
         Call::new(Kind::Dma)
     }
 
-    pub fn line() -> Call {
-        Call::new(Kind::Line)
-    }
-
-    pub fn run(most: u16) -> Call {
-        Call { most, ..Call::new(Kind::Run) }
+    pub fn run(most: u16, reason: u8) -> Call {
+        Call { most, reason, ..Call::new(Kind::Run) }
     }
 
     pub fn play() -> Call {

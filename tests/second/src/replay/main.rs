@@ -5,10 +5,15 @@
 //! FOLDER has NAME.json, NAME.chr, NAME.l01, NAME.num and NAME.pix, decompressed. Both sides must agree
 //! in everything, and with the capture in each answer, each pixel number and each finished colour; in one
 //! capture status bit 5 may come up within the line that sets it.
-//! The library plays the log two more times: with `ppu_run` for lines, and as a log by `ppu_play`.
+//! The lines are run one by one. The library plays the log three more times: by runs that wait for NMI, by runs
+//! that wait for a sprite 0 hit, whose line is compared with the capture, and as a log by `ppu_play`.
 //! Before each line both sides search it for overflow, and the line must set bit 5 if the search does.
 //! After each picture the text of its four quarters must be what a table of the tiles themselves gives.
 
+mod hits;
+
+use hits::{Hits, HIT};
+use second::calls::{RUN_ALL, UNTIL_HIT, UNTIL_NMI};
 use second::log::Machine;
 use second::memory::palette_cell;
 use second::text::{self, PAGE, TEXT};
@@ -29,6 +34,9 @@ const POLLS_IN_LINES: &str = "efp";
 /// The capture in which bit 5 must be seen set and clear, each also where a count of sprites says otherwise.
 const CROWDS: &str = "ovf";
 const OVERFLOW: u8 = 0x20;
+
+/// The capture in which runs must stop at NMI, and at hits on a line that it knows and on one of some lines.
+const HITS: &str = "hit8";
 
 /// The byte that stands for a tile without a character.
 const SPACE: u8 = 32;
@@ -100,10 +108,12 @@ impl Library {
         library::write(unit, address, byte, left, right, nametables, oam, palette)
     }
 
-    fn line(&mut self) -> u64 {
+    fn run(&mut self, most: u16, reason: u8) -> u64 {
         let m = &mut self.0;
-        library::line(
+        library::run(
             &mut m.unit,
+            most,
+            reason,
             &m.left,
             &m.right,
             &m.nametables,
@@ -114,24 +124,23 @@ impl Library {
         )
     }
 
-    /// Runs that many lines by runs, each of which may stop early.
-    fn run(&mut self, mut lines: u16) {
-        let m = &mut self.0;
-        while lines > 0 {
-            let answer = library::run(
-                &mut m.unit,
-                lines,
-                &m.left,
-                &m.right,
-                &m.nametables,
-                &m.oam,
-                &m.palette,
-                &mut m.line,
-                &mut m.colours,
-            );
-            assert!(answer & 255 == 0 && answer >> 32 > 0, "a run of {lines} lines answered {answer:X}");
-            lines -= (answer >> 32) as u16;
+    /// Runs that many lines by runs that wait for a reason; those of the lines, from 0, that met it.
+    fn run_by(&mut self, lines: u16, reason: u8) -> Result<Vec<u16>, String> {
+        let (mut met, mut done) = (Vec::new(), 0);
+        while done < lines {
+            let most = lines - done;
+            let answer = self.run(most, reason);
+            let (ran, is_met) = ((answer >> 32) as u16, answer >> 17 & 1 == 1);
+            let due = u64::from(ran) << 32 | u64::from(is_met) << 17 | nmi(&self.0.unit);
+            if answer != due || !(1..=most).contains(&ran) || !is_met && ran != most {
+                return Err(format!("a run of {most} lines, reason {reason}, answered {answer:X}"));
+            }
+            done += ran;
+            if is_met {
+                met.push(done - 1);
+            }
         }
+        Ok(met)
     }
 
     fn search(&self, line: u16) -> u64 {
@@ -154,6 +163,11 @@ impl Library {
         copy.read(0x2007); // what the read buffer had
         (0..PAGE).map(|_| (copy.read(0x2007) >> 8) as u8).collect()
     }
+}
+
+/// The NMI level of a record, where an answer has it.
+fn nmi(unit: &[u8; 16]) -> u64 {
+    u64::from(unit[0] & unit[2] & 0x80) << 9
 }
 
 struct Capture {
@@ -220,6 +234,10 @@ struct Tally {
     lines: usize,
     reads: usize,
     overflow: Overflow,
+    /// Lines on which runs that wait for NMI, or for a hit, stopped.
+    met_nmi: usize,
+    met_hit: usize,
+    hits: hits::Tally,
     pictures: usize,
     /// Pages of text compared.
     texts: usize,
@@ -301,8 +319,9 @@ struct Replay<'a> {
     capture: &'a Capture,
     library: Library,
     second: Machine,
-    /// The library again, run by `ppu_run` and not line by line.
-    by_runs: Library,
+    /// The library again, by runs that wait for NMI, and by runs that wait for a hit.
+    by_nmi: Library,
+    by_hit: Library,
     /// The library again, by `ppu_play` on what is left of the log, the answers taken out of it.
     by_play: Library,
     log: Vec<u8>,
@@ -311,6 +330,7 @@ struct Replay<'a> {
     /// Whether a drawn line since line 261 had nine sprites in range, and whether the last one raised bit 5.
     nine: bool,
     raised: bool,
+    hits: Hits,
     tally: Tally,
 }
 
@@ -318,7 +338,8 @@ impl Replay<'_> {
     fn read(&mut self, address: u16, captured: u8) -> Result<u64, String> {
         let library = self.library.read(address);
         let second = u64::from(self.second.read(address));
-        self.by_runs.read(address);
+        self.by_nmi.read(address);
+        self.by_hit.read(address);
         if library != second {
             return Err(format!("read {address:04X}: library {library:X}, second {second:X}"));
         }
@@ -330,6 +351,9 @@ impl Replay<'_> {
             return Err(format!("read {address:04X}: answer {library:X}, the capture has {captured:02X}"));
         }
         self.tally.reads += 1;
+        if address % 8 == 2 {
+            self.hits.compare(captured, self.second.next_line())?;
+        }
         match address % 8 {
             2 if is_early => self.tally.overflow.count_without(apart),
             2 => self.tally.overflow.count_whole(byte, self.nine),
@@ -341,38 +365,57 @@ impl Replay<'_> {
     fn write(&mut self, address: u16, byte: u8) -> Result<u64, String> {
         let library = self.library.write(address, byte);
         let second = u64::from(self.second.write(address, byte));
-        self.by_runs.write(address, byte);
+        self.by_nmi.write(address, byte);
+        self.by_hit.write(address, byte);
         if library != second || library & 255 != 0 {
             return Err(format!("write {address:04X} {byte:02X}: library {library:X}, second {second:X}"));
         }
         Ok(library)
     }
 
-    /// A run, line by line; what the record's answer must be.
+    /// Lines, one by one and by runs; what the record's answer must be.
     fn lines(&mut self, lines: u16) -> Result<u64, String> {
-        (0..lines).try_for_each(|_| self.line())?;
-        self.by_runs.run(lines);
-        let unit = &self.second.unit;
-        Ok(u64::from(lines) << 32 | u64::from(unit[0] & unit[2] & 0x80) << 9)
+        let nmis = self.by_nmi.run_by(lines, UNTIL_NMI)?;
+        let hits = self.by_hit.run_by(lines, UNTIL_HIT)?;
+        self.tally.met_nmi += nmis.len();
+        self.tally.met_hit += hits.len();
+        for line in 0..lines {
+            self.line(nmis.contains(&line), hits.contains(&line))?;
+        }
+        Ok(u64::from(lines) << 32 | nmi(&self.second.unit))
     }
 
-    fn line(&mut self) -> Result<(), String> {
+    /// One line; whether runs that wait for NMI and for a hit stopped on it.
+    fn line(&mut self, is_nmi: bool, is_hit: bool) -> Result<(), String> {
         let (line, unit) = (usize::from(self.second.next_line()), self.second.unit);
         self.begun += usize::from(line == 0);
         let looked = self.search(line as u16)?;
-        let (library, second) = (self.library.line(), u64::from(self.second.line()));
+        let word = self.captured_line(line).map(|captured| hits::word(&self.second, captured));
+        let (library, second) = (self.library.run(1, RUN_ALL), u64::from(self.second.run(1, RUN_ALL)));
         if library != second || self.library.0 != self.second {
             return Err(format!(
                 "line {line}: library {library:X}, second {second:X}, or their memories differ"
             ));
         }
         self.tally.lines += 1;
+        let raised = self.second.unit[2] & !unit[2] & HIT != 0;
+        if is_nmi != (line == 241 && unit[0] & 0x80 != 0) || is_hit != raised {
+            return Err(format!("line {line}: met by runs: NMI {is_nmi}, hit {is_hit}"));
+        }
+        self.hits.take(line as u16, is_hit, word)?;
         self.compare_overflow(line as u16, &unit, looked)?;
         if line < HEIGHT && self.begun > 1 {
             self.compare_colours(line, &unit)?;
             self.compare_pixels(line)?;
         }
         Ok(())
+    }
+
+    /// The pixel numbers that the capture has of a line of the present picture; none of the first picture.
+    fn captured_line(&self, line: usize) -> Option<&[u8]> {
+        let picture = self.begun.checked_sub(1).filter(|&picture| picture > 0 && line < HEIGHT)?;
+        let at = (picture * HEIGHT + line) * WIDTH;
+        self.capture.pictures.get(at..at + WIDTH)
     }
 
     /// The search on a line, on both sides; how many sprites it looked at, 0 where it is refused.
@@ -406,11 +449,10 @@ impl Replay<'_> {
     }
 
     fn compare_pixels(&mut self, line: usize) -> Result<(), String> {
-        let picture = self.begun - 1;
-        let at = (picture * HEIGHT + line) * WIDTH;
-        let Some(captured) = self.capture.pictures.get(at..at + WIDTH) else { return Ok(()) };
+        let Some(captured) = self.captured_line(line) else { return Ok(()) };
         let mut pairs = captured.iter().zip(&self.library.0.line);
         if let Some(column) = pairs.position(|(a, b)| a != b) {
+            let picture = self.begun - 1;
             let (ours, theirs) = (self.library.0.line[column], captured[column]);
             return Err(format!(
                 "picture {picture} line {line} column {column}: {ours}, the capture has {theirs}"
@@ -466,7 +508,8 @@ impl Replay<'_> {
             return Err(format!("ppu_play answers {played:X}, the calls {wanted:X}"));
         }
         let library = &self.library.0;
-        if [&self.second, &self.by_runs.0, &self.by_play.0].iter().any(|other| *other != library) {
+        let others = [&self.second, &self.by_nmi.0, &self.by_hit.0, &self.by_play.0];
+        if others.iter().any(|other| *other != library) {
             return Err("the units or memories differ".into());
         }
         self.tally.records += 1;
@@ -479,22 +522,24 @@ fn replay(capture: &Capture) -> Result<Tally, String> {
         capture,
         library: Library(capture.start()),
         second: capture.start(),
-        by_runs: Library(capture.start()),
+        by_nmi: Library(capture.start()),
+        by_hit: Library(capture.start()),
         by_play: Library(capture.start()),
         log: capture.log_without_answers(),
         begun: 0,
         nine: false,
         raised: false,
+        hits: Hits::default(),
         tally: Tally::default(),
     };
     for number in 0..capture.log.len().div_ceil(4) {
         replay.record(number).map_err(|why| format!("record {number}: {why}"))?;
     }
-    Ok(replay.tally)
+    Ok(Tally { hits: replay.hits.tally, ..replay.tally })
 }
 
 fn print(name: &str, tally: &Tally, due: usize) {
-    let Tally { colours, overflow, .. } = tally;
+    let Tally { colours, overflow, hits, .. } = tally;
     println!(
         "  {name}: {} records, {} lines, {} answers, {} of {due} pictures, {} pages of text; {} finished colours: \
          {} changed by greyscale, {} by emphasis, {} by backdrop override",
@@ -522,6 +567,11 @@ fn print(name: &str, tally: &Tally, due: usize) {
         overflow.ended,
         overflow.raised
     );
+    println!(
+        "    runs stopped at NMI {} times, at a hit {} times; pictures with a hit on the one line that the capture \
+         leaves: {}, on one of some lines: {}, without a hit: {}",
+        tally.met_nmi, tally.met_hit, hits.known, hits.among, hits.without
+    );
 }
 
 /// All that is due of a capture was compared, and seen where it must be.
@@ -531,6 +581,7 @@ fn is_whole(name: &str, tally: &Tally, due: usize) -> bool {
         && tally.texts == 4 * due
         && tally.colours.all == due * WIDTH * HEIGHT
         && tally.overflow.searches >= due * HEIGHT
+        && (name != HITS || tally.met_nmi > 0 && tally.hits.are_of_each_kind())
         && (name != CROWDS || tally.overflow.is_of_each_kind())
         && (name != ALL_COLOURS || tally.colours.are_of_each_kind())
 }
@@ -552,10 +603,6 @@ fn verdict(folder: &str, name: &str) -> Option<Tally> {
 }
 
 fn main() -> ExitCode {
-    if !library::LINES {
-        println!("the archive has no ppu_line and ppu_run: no capture can be replayed");
-        return ExitCode::FAILURE;
-    }
     let mut words = std::env::args().skip(1);
     let folder = &words.next().expect("the folder of the captures");
     let names: Vec<String> = words.collect();
@@ -563,15 +610,18 @@ fn main() -> ExitCode {
         let replays: Vec<_> = names.iter().map(|name| scope.spawn(move || verdict(folder, name))).collect();
         replays.into_iter().filter_map(|r| r.join().unwrap_or(None)).collect()
     });
-    let sum = |number: fn(&Overflow) -> usize| tallies.iter().map(|t| number(&t.overflow)).sum::<usize>();
+    let sum = |number: fn(&Tally) -> usize| tallies.iter().map(number).sum::<usize>();
     let passed = tallies.len() == names.len() && !names.is_empty();
     println!(
-        "replay: {} of {} captures, {} reads of port 2 in all bits, {} of them with bit 5 set, {} without bit 5: {}",
+        "replay: {} of {} captures, {} reads of port 2 in all bits, {} of them with bit 5 set, {} without bit 5; {} \
+         pictures with a hit, the line of {} known: {}",
         tallies.len(),
         names.len(),
-        sum(|overflow| overflow.whole),
-        sum(|overflow| overflow.set),
-        sum(|overflow| overflow.without),
+        sum(|tally| tally.overflow.whole),
+        sum(|tally| tally.overflow.set),
+        sum(|tally| tally.overflow.without),
+        sum(|tally| tally.hits.known + tally.hits.among),
+        sum(|tally| tally.hits.known),
         if passed { "no difference" } else { "FAILED" }
     );
     ExitCode::from(u8::from(!passed))
