@@ -11,13 +11,13 @@ use borrow.Author.Tests.{eqb-true, eqb-false, eq-eqb, ne-eqb, lt-ltb, le-ltb, le
 use Rattle.model.specs.declared.Ppu.{Ppu}
 use Rattle.model.specs.declared.Board.{Board}
 use Rattle.model.specs.Unit.{State, state, lineLength, bit, lastLine, isWellFormed, isRendering, isDrawing, nmiLevel}
-use Rattle.model.specs.Line.{anyOf, hitOf, marked, statusOf, drawnUnit, drawnLine, idleLine, vblankLine, preRenderLine, blankUnit, oneLine, linesRun, lineAfter, meetsReason, lineCount, reasonMet}
+use Rattle.model.specs.Line.{anyOf, hitOf, marked, statusOf, drawnUnit, drawnLine, idleLine, vblankLine, preRenderLine, blankUnit, oneLine, linesRun, meetsReason, lineCount, reasonMet}
 use Rattle.model.specs.Calls.{Lent, Call, readCall, writeCall, dmaCall, runCall, searchCall, Outcome, outcome, lineLong, requestOk, order, refusalOf, readDone, writeDone, dmaDone, runDone, searchDone, done, onLent}
 use Rattle.model.specs.Theorems.{untilVblank, meetsAt, Runs, RunCalls}
 use Rattle.model.proofs.Tests.{cond-both, and-both}
 use Rattle.model.proofs.Scroll.{lt-or-ge}
 use Rattle.model.proofs.Accepted.{is-unasked, exported-unasked, gated, and-none}
-use Rattle.model.proofs.Line.{last-high, line-board, next-line, run-next}
+use Rattle.model.proofs.Line.{last-high, line-board, lineAfter, next-line, run-next}
 use Rattle.model.proofs.Good.{good-of, lent-lines}
 
 -- ANY REASON. One line more
