@@ -11,14 +11,14 @@ use Rattle.model.specs.declared.Ppu.{Ppu}
 use Rattle.model.specs.declared.Access.{Access}
 use Rattle.model.specs.Colours.{numbersOf}
 use Rattle.model.specs.Unit.{State, state, lineMemory, bit, isRendering, isWellFormed, isDrawing}
-use Rattle.model.specs.Line.{blankUnit, oneLine}
-use Rattle.model.specs.Calls.{access, ranAnswer, refusedAccess, own, Call, runCall, Outcome, outcome, lineOutcome, accessSizes, lineSizes, order, plainRefusal, refusalOf, runDone, done, onLent}
+use Rattle.model.specs.Line.{oneLine, linesRun}
+use Rattle.model.specs.Calls.{access, ranAnswer, refusedAccess, own, Call, runCall, Outcome, outcome, outcomeOn, lineOutcome, accessSizes, lineSizes, order, plainRefusal, refusalOf, runDone, done, onLent}
 use Rattle.model.proofs.Accepted.{is-unasked, is-refused, is-done, order-0, order-formed, and-none, all5}
 use Rattle.model.proofs.Tests.{and-both}
 use Rattle.model.proofs.Colours.{sized-bytes}
-use Rattle.model.proofs.Runs.{meets-undrawn}
+use Rattle.model.proofs.Runs.{run-one, meets-undrawn}
 use Rattle.scanline.specs.Shown.{RunLengths, IsRun}
-use Rattle.scanline.proofs.Cases.{one-run}
+use Rattle.runs.specs.After.{afterLine}
 
 -- 5, whatever is lent
 pub run-unknown : (u : Ppu) (l r n o p b f : List ℕ) (why most : ℕ) (x : Access) → 2 < why → x ≡ refusedAccess 5 u
@@ -108,11 +108,18 @@ pub line-formed : (u : Ppu) (s : Bool) (k : ℕ) → k ≡ plainRefusal s u → 
 unfolding plainRefusal
 line-formed u s k hk h = order-formed _ _ _ _ _ (sym hk ∙ h)
 
--- A RUN OF ONE LINE from 240 on, whatever is lent
-pub blank-run : (u next : Ppu) (why : ℕ) (m : Bool) (x : Access) → 239 < u .scanline → m ≡ (eqb why 1 && (bit 128 (u .control) && eqb (u .scanline) 241)) → next ≡ blankUnit u
-    → x ≡ access (ranAnswer 1 m next) next → (l r n o p b f : List ℕ) → lineOutcome x l r n o p b f ≡ done (runCall own why 1) (state u (lineMemory l r n o p b f))
-blank-run u next why m x h em en ex l r n o p b f =
-    let s : State = state u (lineMemory l r n o p b f) in
-    let line : state next (lineMemory l r n o p b f) ≡ oneLine s = unfold oneLine in rw (en, le-ltb (u .scanline) 240 (omega arith)) in
-    let off : ltb (u .scanline) 240 && isRendering u ≡ false = rw (le-ltb (u .scanline) 240 (omega arith)) in
-    ran-is why 1 s next l r n o p b f 1 m x (one-run why s (state next (lineMemory l r n o p b f)) m line (em ∙ sym (meets-undrawn s why off))) ex
+-- A LINE THAT IS NOT DRAWN
+pub undrawn-run : (u next : Ppu) (why : ℕ) (m : Bool) (x : Access) → ltb (u .scanline) 240 && isRendering u ≡ false → m ≡ (eqb why 1 && (bit 128 (u .control) && eqb (u .scanline) 241))
+    → ((l r n o p b f : List ℕ) → next ≡ oneLine (state u (lineMemory l r n o p b f)) .unit) → x ≡ access (ranAnswer 1 m next) next
+    → (l r n o p b f : List ℕ) → x ≡ afterLine why (state u (lineMemory l r n o p b f))
+undrawn-run u next why m x h em en ex l r n o p b f =
+    let met = em ∙ sym (meets-undrawn (state u (lineMemory l r n o p b f)) why h) in
+    ex ∙ (λ i. access (ranAnswer 1 (met i) (en l r n o p b f i)) (en l r n o p b f i))
+
+-- with its buffers it is the run of one line
+pub line-is : (why : ℕ) (s : State) (x : Access) (l r n o p b f : List ℕ) → x ≡ afterLine why s → lineMemory l r n o p b f ≡ oneLine s .memory
+    → lineOutcome x l r n o p b f ≡ done (runCall own why 1) s
+unfolding done runDone linesRun
+line-is why s x l r n o p b f e m =
+    let one = run-one why s in
+    (λ i. outcomeOn (e i) (m i)) ∙ sym (λ i. outcome (ranAnswer (one .0 i) (one .1 i) (linesRun (one .0 i) s .unit)) (linesRun (one .0 i) s))

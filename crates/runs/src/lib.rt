@@ -1,12 +1,15 @@
 // The public call on a unit by value that runs lines: run. It has no `requires`: it refuses what it cannot take, 5 then 2 then 3, and a refused call
 // leaves the unit and every lent memory as they were. Within, for a reason that is known, the same with the colours lent as bytes, for C: run_bytes,
-// which does the work; for one line line_bytes, and blank_line where it is one from 240 on.
+// which does the work; for one line line_bytes, and undrawn_line for the unit alone of one that is not drawn.
 ghost use mathlib.Core.Path.{_≡_};
+ghost use mathlib.Core.Bool.{true, false, _&&_};
 ghost use mathlib.Core.List.{List};
-ghost use Prim.Native.Nat.{ℕ, _<_, _≤_};
-ghost use Rattle.model.specs.Unit.{state, lineMemory};
+ghost use Prim.Native.Nat.{ℕ, _≤_};
+ghost use lib.Dec.{ltb};
+ghost use Rattle.model.specs.Unit.{state, lineMemory, isRendering, isWellFormed};
 ghost use Rattle.model.specs.Colours.{numbersOf};
-ghost use Rattle.model.specs.Calls.{lineOutcome, onLent, runCall, done, own};
+ghost use Rattle.model.specs.Calls.{lineOutcome, onLent, runCall, own};
+ghost use Rattle.runs.specs.After.{afterLine};
 use model::Access;
 use model::Ppu;
 
@@ -56,13 +59,13 @@ pub fn line_bytes(
     unit::ran(one.lines, one.met, next)
 }
 
-// One line from 240 on, accepted: it touches nothing that is lent.
-pub fn blank_line(u: Ppu, reason: u8) -> Access
-    requires { ⌜ (239 < u .scanline) × (u .scanline < 262) ⌝ }
-    ensures { λ x. ⌜ ((l r n o p b f : List ℕ) → lineOutcome x l r n o p b f ≡ done (runCall own reason 1) (state u (lineMemory l r n o p b f))) ⌝ }
+// The answer and the unit of one line that is not drawn, accepted.
+pub fn undrawn_line(u: Ppu, reason: u8) -> Access
+    requires { ⌜ (isWellFormed u ≡ true) × (ltb (u .scanline) 240 && isRendering u ≡ false) ⌝ }
+    ensures { λ x. ⌜ ((l r n o p b f : List ℕ) → x ≡ afterLine reason (state u (lineMemory l r n o p b f))) ⌝ }
 {
     let met = lines::meets_nmi(reason, u.control, u.scanline);
-    let next = lines::blank_line(u);
+    let next = scanline::undrawn_unit(u);
     unit::ran(1, met, next)
 }
 

@@ -115,28 +115,44 @@ picture-pixels u l r n o b e =
 pub undrawn-off : (u : Ppu) → ltb (u .scanline) 240 && isRendering u ≡ false → u .scanline < 240 → isRendering u ≡ false
 undrawn-off u h k = sym (ap (λ (z : Bool). z && isRendering u) (lt-ltb (u .scanline) 240 k)) ∙ h
 
-module _ (u x : Ppu) (p b b′ f f′ : List ℕ) (h : ltb (u .scanline) 240 && isRendering u ≡ false) where
+module _ (u : Ppu) (h : ltb (u .scanline) 240 && isRendering u ≡ false) where
   off : u .scanline < 240 → isRendering u ≡ false
   off = undrawn-off u h
 
-  pub undrawn-1 : u .scanline < 240 → length b ≡ 256 → length b′ ≡ length b → ((q : ℕ) → getD b′ q 0 ≡ cond (ltb q 256) 0 (getD b q 0)) → f′ ≡ tab (always (colourAt u p 0)) 256
-      → x ≡ withScanline u (u .scanline + 1) → (l r n o : List ℕ) → state x (lineMemory l r n o p b′ f′) ≡ oneLine (state u (lineMemory l r n o p b f))
+  pub unit-1 : (x : Ppu) → u .scanline ≤ 239 → x ≡ withScanline u (u .scanline + 1) → (l r n o p b f : List ℕ) → x ≡ oneLine (state u (lineMemory l r n o p b f)) .unit
   unfolding oneLine drawnLine drawnUnit statusOf marked
-  undrawn-1 k long e c g d l r n o =
-      rw (d, blank-colours u p b′ f′ (e ∙ long) (λ q lt. c q ∙ rw (lt-ltb q 256 lt)) g, drawn-off u l r n o b b′ (off k) (e ∙ long) c, lt-ltb (u .scanline) 240 k, off k)
+  unit-1 x k d l r n o p b f = let lt : u .scanline < 240 = omega arith in rw (d, lt-ltb (u .scanline) 240 lt, off lt)
 
-  pub undrawn-2 : 240 ≤ u .scanline → x ≡ blankUnit u → b′ ≡ b → f′ ≡ f → (l r n o : List ℕ) → state x (lineMemory l r n o p b′ f′) ≡ oneLine (state u (lineMemory l r n o p b f))
+  pub unit-2 : (x : Ppu) → 239 < u .scanline → x ≡ blankUnit u → (l r n o p b f : List ℕ) → x ≡ oneLine (state u (lineMemory l r n o p b f)) .unit
   unfolding oneLine
-  undrawn-2 k e d g l r n o = rw (e, d, g, le-ltb (u .scanline) 240 k)
+  unit-2 x k e l r n o p b f = rw (e, le-ltb (u .scanline) 240 (omega arith))
 
-pub ruleset undrawn-cases = (undrawn-1, undrawn-2)
+  module _ (p b b′ f f′ : List ℕ) where
+    pub buffers-1 : u .scanline < 240 → length b ≡ 256 → length b′ ≡ length b → ((q : ℕ) → getD b′ q 0 ≡ cond (ltb q 256) 0 (getD b q 0)) → f′ ≡ tab (always (colourAt u p 0)) 256
+        → (l r n o : List ℕ) → lineMemory l r n o p b′ f′ ≡ oneLine (state u (lineMemory l r n o p b f)) .memory
+    unfolding oneLine drawnLine
+    buffers-1 k long e c g l r n o =
+        rw (blank-colours u p b′ f′ (e ∙ long) (λ q lt. c q ∙ rw (lt-ltb q 256 lt)) g, drawn-off u l r n o b b′ (off k) (e ∙ long) c, lt-ltb (u .scanline) 240 k)
+
+    pub buffers-2 : 240 ≤ u .scanline → b′ ≡ b → f′ ≡ f → (l r n o : List ℕ) → lineMemory l r n o p b′ f′ ≡ oneLine (state u (lineMemory l r n o p b f)) .memory
+    unfolding oneLine
+    buffers-2 k d g l r n o = rw (d, g, le-ltb (u .scanline) 240 k)
+
+pub ruleset unit-cases = (unit-1, unit-2)
+
+pub ruleset buffers-cases = (buffers-1, buffers-2)
+
+pub undrawn-is : (u x : Ppu) (p b b′ f f′ : List ℕ) → ((l r n o p b f : List ℕ) → x ≡ oneLine (state u (lineMemory l r n o p b f)) .unit)
+    → ((l r n o : List ℕ) → lineMemory l r n o p b′ f′ ≡ oneLine (state u (lineMemory l r n o p b f)) .memory)
+    → (l r n o : List ℕ) → state x (lineMemory l r n o p b′ f′) ≡ oneLine (state u (lineMemory l r n o p b f))
+undrawn-is u x p b b′ f f′ e g l r n o = λ i. state (e l r n o p b f i) (g l r n o i)
 
 met-undrawn : (u : Ppu) (why : ℕ) (l r n o p b f : List ℕ) (m : Bool) → ltb (u .scanline) 240 && isRendering u ≡ false
     → m ≡ (eqb why 1 && (bit 128 (u .control) && eqb (u .scanline) 241)) → m ≡ meetsReason why u (oneLine (state u (lineMemory l r n o p b f)) .unit)
 met-undrawn u why l r n o p b f m h e = e ∙ sym (meets-undrawn (state u (lineMemory l r n o p b f)) why h)
 
 -- A RUN OF ONE LINE
-pub one-run : (why : ℕ) (s t : State) (m : Bool) → t ≡ oneLine s → m ≡ meetsReason why (s .unit) (oneLine s .unit) → IsRun why 1 s 1 m t
+one-run : (why : ℕ) (s t : State) (m : Bool) → t ≡ oneLine s → m ≡ meetsReason why (s .unit) (oneLine s .unit) → IsRun why 1 s 1 m t
 unfolding linesRun
 one-run why s t m e f =
     record { count = sym (run-one why s .0); reason = f ∙ sym (run-one why s .1); after = e ∙ ap (λ (k : ℕ). linesRun k s) (sym (run-one why s .0)) }

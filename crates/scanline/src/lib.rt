@@ -1,7 +1,7 @@
 // One line, and runs of lines. Inner functions, not public calls: they require the lengths and the well-formed unit
 // that a call has checked.
 // A drawn line: background_shown, zero_hits, overlay, sprites_on, sprites_shown, draw.
-// Any line: undrawn, one_line. A run: goes_on, run.
+// Any line: undrawn_unit, undrawn_buffers, undrawn, one_line. A run: goes_on, run.
 ghost use mathlib.Core.Path.{_≡_};
 ghost use mathlib.Core.Bool.{cond, true, false, not, _&&_};
 ghost use mathlib.Core.List.{List, []};
@@ -181,19 +181,38 @@ fn draw(
     sprites_shown(u, l, r, o, line)
 }
 
-// A line that is not drawn: all zero, in the backdrop's colour, from 0 to 239, untouched from 240 on; and the unit after it.
-fn undrawn(u: Ppu, palette: &[u8], line: &mut [u8], colours: &mut [u8]) -> Ppu
-    requires { ⌜ (length (now palette) ≡ 32) × (length (now line) ≡ 256) × (length (now colours) ≡ 512) × (isWellFormed u ≡ true) × (ltb (u .scanline) 240 && isRendering u ≡ false) ⌝ }
-    ensures { λ x. ⌜ ((l r n o : List ℕ) → state x (lineMemory l r n o (now (palette .entry)) (now (line .exit)) (numbersOf (now (colours .exit)))) ≡ oneLine (state u (lineMemory l r n o (now (palette .entry)) (now (line .entry)) (numbersOf (now (colours .entry)))))) ⌝ }
+// The unit after a line that is not drawn.
+pub fn undrawn_unit(u: Ppu) -> Ppu
+    requires { ⌜ (isWellFormed u ≡ true) × (ltb (u .scanline) 240 && isRendering u ≡ false) ⌝ }
+    ensures { λ x. ⌜ ((l r n o p b f : List ℕ) → x ≡ oneLine (state u (lineMemory l r n o p b f)) .unit) ⌝ }
+{
+    if 239 < u.scanline {
+        return lines::blank_line(u);
+    }
+    let mut n = u;
+    n.scanline = u.scanline + 1;
+    n
+}
+
+// The buffers after it: all zero, in the backdrop's colour, from 0 to 239; untouched from 240 on.
+pub fn undrawn_buffers(u: Ppu, palette: &[u8], line: &mut [u8], colours: &mut [u8])
+    requires { ⌜ (length (now palette) ≡ 32) × (length (now line) ≡ 256) × (length (now colours) ≡ 512) × (ltb (u .scanline) 240 && isRendering u ≡ false) ⌝ }
+    ensures { λ _. ⌜ ((l r n o : List ℕ) → lineMemory l r n o (now (palette .entry)) (now (line .exit)) (numbersOf (now (colours .exit))) ≡ oneLine (state u (lineMemory l r n o (now (palette .entry)) (now (line .entry)) (numbersOf (now (colours .entry))))) .memory) ⌝ }
 {
     if u.scanline < 240 {
         pixels::clear(line, 256);
         draw_colours::backdrop(u, palette, colours);
-        let mut n = u;
-        n.scanline = u.scanline + 1;
-        return n;
+        return;
     }
-    lines::blank_line(u)
+}
+
+// Both.
+fn undrawn(u: Ppu, palette: &[u8], line: &mut [u8], colours: &mut [u8]) -> Ppu
+    requires { ⌜ (length (now palette) ≡ 32) × (length (now line) ≡ 256) × (length (now colours) ≡ 512) × (isWellFormed u ≡ true) × (ltb (u .scanline) 240 && isRendering u ≡ false) ⌝ }
+    ensures { λ x. ⌜ ((l r n o : List ℕ) → state x (lineMemory l r n o (now (palette .entry)) (now (line .exit)) (numbersOf (now (colours .exit)))) ≡ oneLine (state u (lineMemory l r n o (now (palette .entry)) (now (line .entry)) (numbersOf (now (colours .entry)))))) ⌝ }
+{
+    undrawn_buffers(u, palette, line, colours);
+    undrawn_unit(u)
 }
 
 // A run of one line: it needs no loop, and no table unless the line is drawn.

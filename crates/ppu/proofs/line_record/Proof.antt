@@ -1,17 +1,20 @@
-use Rattle.ppu.proofs.Cases.{run-2, run-3, run-4, blank-small}
+use lib.ListN.{length}
+use Rattle.ppu.proofs.Cases.{run-2, run-3, run-4, palette-32, line-256, colours-512, unit-formed, draws-not}
 use Rattle.model.proofs.Accepted.{form-long}
 use borrow.Author.Needs.{needs}
 use Rattle.ppu.proofs.line_record.Statement.{statement}
 use Rattle.ppu.proofs.line_record.Tie as tie
 use Rattle.ppu.proofs.line_record.Reads as reads
 use Rattle.ppu.proofs.line_record.Lts as lts
+use Rattle.lines.proofs.draws.Reads as draws-reads
 use Rattle.record.proofs.read_unit.Reads as read-unit-reads
 use Rattle.refusals.proofs.finish.Reads as finish-reads
 use Rattle.refusals.proofs.line_sizes.Reads as line-sizes-reads
 use Rattle.refusals.proofs.record_refusal.Reads as record-refusal-reads
 use Rattle.refusals.proofs.zero_board.Reads as zero-board-reads
-use Rattle.runs.proofs.blank_line.Reads as blank-line-reads
 use Rattle.runs.proofs.line_bytes.Reads as line-bytes-reads
+use Rattle.runs.proofs.undrawn_line.Reads as undrawn-line-reads
+use Rattle.scanline.proofs.undrawn_buffers.Reads as undrawn-buffers-reads
 
 zero-board-requires : tie.Need-zero-board-requires
 zero-board-requires c κs = search needs
@@ -34,8 +37,11 @@ returns c = search run-2
 read-unit-requires : tie.Need-read-unit-requires
 read-unit-requires c κs = search form-long
 
-blank-line-requires : tie.Need-blank-line-requires
-blank-line-requires c κs = (search needs, search blank-small)
+draws-requires : tie.Need-draws-requires
+draws-requires c κs = search needs
+
+line-bytes-requires : tie.Need-line-bytes-requires
+line-bytes-requires c κs = search needs
 
 finish-requires : tie.Need-finish-requires
 finish-requires c κs = search needs
@@ -43,38 +49,14 @@ finish-requires c κs = search needs
 same-length-2 : tie.Need-same-length-2
 same-length-2 c = search needs
 
-returns-2 : tie.Need-returns-2
-returns-2 c =
-    run-4 _ _ _ _ _ _ _ _ _ _ _
-    (c .before .before .before .before .before .before .before .before .before .before .before .before .before .before .before .before .before .before .before .before .before .before .pre)
-    _ _ _
-    (c .before .before .before .before .before .before .before .before .before .before .before .before .before .zero-board .ensures)
-    (c .before .before .before .before .before .before .before .before .before .before .before .before .line-sizes .ensures)
-    (c .before .before .before .before .before .before .before .before .before .before .record-refusal .ensures)
-    _ _ _
-    (c .before .before .before .before .before .before .before .before .before .if1 .left)
-    (c .before .before .before .before .before .before .before .read-unit .ensures)
-    (c .before .before .before .before .blank-line .ensures)
-    (c .before .before .finish .ensures .1)
-    (c .before .before .finish .ensures .0)
-
-line-bytes-requires : tie.Need-line-bytes-requires
-line-bytes-requires c κs = c .before .before .before .before .before .before .before .before .before .before .before .before .before .before .before .before .before .before .before .pre
-
-finish-requires-2 : tie.Need-finish-requires-2
-finish-requires-2 c κs = search needs
-
 same-length-3 : tie.Need-same-length-3
 same-length-3 c = search needs
 
 same-length-4 : tie.Need-same-length-4
 same-length-4 c = search needs
 
-same-length-5 : tie.Need-same-length-5
-same-length-5 c = search needs
-
-returns-3 : tie.Need-returns-3
-returns-3 c =
+returns-2 : tie.Need-returns-2
+returns-2 c =
     run-3 _ _ _ _ _ _ _ _ _ _ _
     (c .before .before .before .before .before .before .before .before .before .before .before .before .before .before .before .before .before .before .before .before .before .before .before .before .before .before .before .before .pre)
     _ _ _
@@ -85,8 +67,43 @@ returns-3 c =
     (c .before .before .before .before .before .before .before .before .before .before .before .before .before .before .before .if1 .left)
     (c .before .before .before .before .before .before .before .before .before .before .before .before .before .read-unit .ensures)
     (c .before .before .before .before .before .before .before .before .line-bytes .ensures)
-    (c .before .before .finish2 .ensures .1)
-    (c .before .before .finish2 .ensures .0)
+    (c .before .before .finish .ensures .1)
+    (c .before .before .finish .ensures .0)
+
+undrawn-line-requires : tie.Need-undrawn-line-requires
+undrawn-line-requires c κs = (search unit-formed, search draws-not)
+
+finish-requires-2 : tie.Need-finish-requires-2
+finish-requires-2 c κs = search needs
+
+undrawn-buffers-requires : tie.Need-undrawn-buffers-requires
+undrawn-buffers-requires c κs =
+    (palette-32 (length (c .before .before .before .before .before .before .before .before .before .before .before .before .before .before .before .before .before .before .before .before .before .before .before .before .args .left .now)) (length (c .before .before .before .before .before .before .before .before .before .before .before .before .before .before .before .before .before .before .before .before .before .before .before .before .args .right .now)) (length (c .before .before .before .before .before .before .before .before .before .before .before .before .before .before .before .before .before .before .before .before .before .before .before .before .args .nametables .now)) (length (c .before .before .before .before .before .before .before .before .before .before .before .before .before .before .before .before .before .before .before .before .before .before .before .before .args .oam .now)) (length (c .before .before .before .before .before .before .before .before .before .before .before .before .before .before .before .before .before .before .before .before .before .before .before .before .args .palette .now)) (length (c .before .before .before .before .before .before .before .before .before .before .before .before .before .before .before .before .before .before .before .before .before .before .before .before .args .line .now)) (length (c .before .before .before .before .before .before .before .before .before .before .before .before .before .before .before .before .before .before .before .before .before .before .before .before .args .colours .now)) _ _ _ (c .before .before .before .before .before .before .before .before .before .before .before .before .before .before .line-sizes .ensures) (c .before .before .before .before .before .before .before .before .before .before .before .before .record-refusal .ensures) (c .before .before .before .before .before .before .before .before .before .before .before .if1 .left), line-256 (length (c .before .before .before .before .before .before .before .before .before .before .before .before .before .before .before .before .before .before .before .before .before .before .before .before .args .left .now)) (length (c .before .before .before .before .before .before .before .before .before .before .before .before .before .before .before .before .before .before .before .before .before .before .before .before .args .right .now)) (length (c .before .before .before .before .before .before .before .before .before .before .before .before .before .before .before .before .before .before .before .before .before .before .before .before .args .nametables .now)) (length (c .before .before .before .before .before .before .before .before .before .before .before .before .before .before .before .before .before .before .before .before .before .before .before .before .args .oam .now)) (length (c .before .before .before .before .before .before .before .before .before .before .before .before .before .before .before .before .before .before .before .before .before .before .before .before .args .palette .now)) (length (c .before .before .before .before .before .before .before .before .before .before .before .before .before .before .before .before .before .before .before .before .before .before .before .before .args .line .now)) (length (c .before .before .before .before .before .before .before .before .before .before .before .before .before .before .before .before .before .before .before .before .before .before .before .before .args .colours .now)) _ _ _ (c .before .before .before .before .before .before .before .before .before .before .before .before .before .before .line-sizes .ensures) (c .before .before .before .before .before .before .before .before .before .before .before .before .record-refusal .ensures) (c .before .before .before .before .before .before .before .before .before .before .before .if1 .left), colours-512 (length (c .before .before .before .before .before .before .before .before .before .before .before .before .before .before .before .before .before .before .before .before .before .before .before .before .args .left .now)) (length (c .before .before .before .before .before .before .before .before .before .before .before .before .before .before .before .before .before .before .before .before .before .before .before .before .args .right .now)) (length (c .before .before .before .before .before .before .before .before .before .before .before .before .before .before .before .before .before .before .before .before .before .before .before .before .args .nametables .now)) (length (c .before .before .before .before .before .before .before .before .before .before .before .before .before .before .before .before .before .before .before .before .before .before .before .before .args .oam .now)) (length (c .before .before .before .before .before .before .before .before .before .before .before .before .before .before .before .before .before .before .before .before .before .before .before .before .args .palette .now)) (length (c .before .before .before .before .before .before .before .before .before .before .before .before .before .before .before .before .before .before .before .before .before .before .before .before .args .line .now)) (length (c .before .before .before .before .before .before .before .before .before .before .before .before .before .before .before .before .before .before .before .before .before .before .before .before .args .colours .now)) _ _ _ (c .before .before .before .before .before .before .before .before .before .before .before .before .before .before .line-sizes .ensures) (c .before .before .before .before .before .before .before .before .before .before .before .before .record-refusal .ensures) (c .before .before .before .before .before .before .before .before .before .before .before .if1 .left), search draws-not)
+
+same-length-5 : tie.Need-same-length-5
+same-length-5 c = search needs
+
+same-length-6 : tie.Need-same-length-6
+same-length-6 c = search needs
+
+same-length-7 : tie.Need-same-length-7
+same-length-7 c = search needs
+
+returns-3 : tie.Need-returns-3
+returns-3 c =
+    run-4 _ _ _ _ _ _ _ _ _ _
+    (c .before .before .before .before .before .before .before .before .before .before .before .before .before .before .before .before .before .before .before .before .before .before .before .before .before .before .before .before .before .pre)
+    _ _ _
+    (c .before .before .before .before .before .before .before .before .before .before .before .before .before .before .before .before .before .before .before .before .zero-board .ensures)
+    (c .before .before .before .before .before .before .before .before .before .before .before .before .before .before .before .before .before .before .before .line-sizes .ensures)
+    (c .before .before .before .before .before .before .before .before .before .before .before .before .before .before .before .before .before .record-refusal .ensures)
+    _ _ _ _ _
+    (c .before .before .before .before .before .before .before .before .before .before .before .before .before .before .before .before .if1 .left)
+    (c .before .before .before .before .before .before .before .before .before .before .before .before .before .before .read-unit .ensures)
+    (c .before .before .before .before .before .before .before .before .before .before .before .undrawn-line .ensures)
+    (c .before .before .before .before .before .before .before .before .before .finish2 .ensures .1)
+    (c .before .before .before .before .before .before .before .before .before .finish2 .ensures .0)
+    (c .before .before .before .before .undrawn-buffers .ensures)
 
 pub line-record-spec : {M : Type 1} → statement M
 line-record-spec =
@@ -99,13 +116,17 @@ line-record-spec =
     same-length
     returns
     read-unit-requires
-    blank-line-requires
+    draws-requires
+    line-bytes-requires
     finish-requires
     same-length-2
-    returns-2
-    line-bytes-requires
-    finish-requires-2
     same-length-3
     same-length-4
+    returns-2
+    undrawn-line-requires
+    finish-requires-2
+    undrawn-buffers-requires
     same-length-5
+    same-length-6
+    same-length-7
     returns-3)

@@ -1,21 +1,17 @@
-use Rattle.scanline.proofs.Cases.{undrawn-cases, undrawn-off, scanline-small}
+use Rattle.scanline.proofs.Cases.{undrawn-is}
 use borrow.Author.Needs.{needs}
 use Rattle.scanline.proofs.undrawn.Statement.{statement}
 use Rattle.scanline.proofs.undrawn.Tie as tie
 use Rattle.scanline.proofs.undrawn.Reads as reads
 use Rattle.scanline.proofs.undrawn.Lts as lts
-use Rattle.draw_colours.proofs.backdrop.Reads as backdrop-reads
-use Rattle.lines.proofs.blank_line.Reads as blank-line-reads
-use Rattle.pixels.proofs.clear.Reads as clear-reads
+use Rattle.scanline.proofs.undrawn_buffers.Reads as undrawn-buffers-reads
+use Rattle.scanline.proofs.undrawn_unit.Reads as undrawn-unit-reads
 
-clear-requires : tie.Need-clear-requires
-clear-requires c κs = search needs
+undrawn-buffers-requires : tie.Need-undrawn-buffers-requires
+undrawn-buffers-requires c κs = search needs
 
-backdrop-requires : tie.Need-backdrop-requires
-backdrop-requires c κs = (search undrawn-off, search needs, search needs)
-
-add-n : tie.Need-add-n
-add-n c = search needs
+undrawn-unit-requires : tie.Need-undrawn-unit-requires
+undrawn-unit-requires c κs = search needs
 
 same-length : tie.Need-same-length
 same-length c = search needs
@@ -24,23 +20,9 @@ same-length-2 : tie.Need-same-length-2
 same-length-2 c = search needs
 
 returns : tie.Need-returns
-returns c = search undrawn-cases
-
-blank-line-requires : tie.Need-blank-line-requires
-blank-line-requires c κs = search scanline-small
-
-returns-2 : tie.Need-returns-2
-returns-2 c = search undrawn-cases
+returns c = search undrawn-is
 
 pub undrawn-spec : {M : Type 1} → statement M
 undrawn-spec =
     tie.close
-    (tie.spec
-    clear-requires
-    backdrop-requires
-    add-n
-    same-length
-    same-length-2
-    returns
-    blank-line-requires
-    returns-2)
+    (tie.spec undrawn-buffers-requires undrawn-unit-requires same-length same-length-2 returns)
