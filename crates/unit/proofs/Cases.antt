@@ -31,37 +31,38 @@ module _ (u : Ppu) (r : Bool) where
 
 pub ruleset drawing-cases = (drawing-1, drawing-2, drawing-3)
 
-module _ (u : Ppu) where
-  pub formed-1 : (u .status % 32 ≡ 0 → ⊥) → false ≡ isWellFormed u
+module _ (u : Ppu) (k : ℕ) (e : k ≡ u .status % 32) where
+  pub formed-1 : (k ≡ 0 → ⊥) → false ≡ isWellFormed u
   unfolding isWellFormed
-  formed-1 p = simp (ne-eqb _ _ p)
+  formed-1 p = rw (← e, ne-eqb k 0 p)
 
-  pub formed-2 : u .status % 32 ≡ 0 → 32768 ≤ u .v → false ≡ isWellFormed u
-  unfolding isWellFormed
-  formed-2 p q = simp (eq-eqb _ _ p, le-ltb _ _ q)
+  module _ (p : k ≡ 0) where
+    pub formed-2 : 32768 ≤ u .v → false ≡ isWellFormed u
+    unfolding isWellFormed
+    formed-2 q = simp (← e, eq-eqb k 0 p, le-ltb _ _ q)
 
-  pub formed-3 : u .status % 32 ≡ 0 → u .v < 32768 → 32768 ≤ u .t → false ≡ isWellFormed u
-  unfolding isWellFormed
-  formed-3 p q r = simp (eq-eqb _ _ p, lt-ltb _ _ q, le-ltb _ _ r)
+    pub formed-3 : u .v < 32768 → 32768 ≤ u .t → false ≡ isWellFormed u
+    unfolding isWellFormed
+    formed-3 q r = simp (← e, eq-eqb k 0 p, lt-ltb _ _ q, le-ltb _ _ r)
 
-  pub formed-4 : u .status % 32 ≡ 0 → u .v < 32768 → u .t < 32768 → 8 ≤ u .x → false ≡ isWellFormed u
-  unfolding isWellFormed
-  formed-4 p q r s = simp (eq-eqb _ _ p, lt-ltb _ _ q, lt-ltb _ _ r, le-ltb _ _ s)
+    pub formed-4 : u .v < 32768 → u .t < 32768 → 8 ≤ u .x → false ≡ isWellFormed u
+    unfolding isWellFormed
+    formed-4 q r s = simp (← e, eq-eqb k 0 p, lt-ltb _ _ q, lt-ltb _ _ r, le-ltb _ _ s)
 
-  pub formed-5 : u .status % 32 ≡ 0 → u .v < 32768 → u .t < 32768 → u .x < 8 → ltb (u .scanline) 262 ≡ isWellFormed u
-  unfolding isWellFormed
-  formed-5 p q r s = simp (eq-eqb _ _ p, lt-ltb _ _ q, lt-ltb _ _ r, lt-ltb _ _ s)
+    pub formed-5 : u .v < 32768 → u .t < 32768 → u .x < 8 → ltb (u .scanline) 262 ≡ isWellFormed u
+    unfolding isWellFormed
+    formed-5 q r s = simp (← e, eq-eqb k 0 p, lt-ltb _ _ q, lt-ltb _ _ r, lt-ltb _ _ s)
 
 pub ruleset formed-cases = (formed-1, formed-2, formed-3, formed-4, formed-5)
 
-module _ (u : Ppu) where
-  pub nmi-1 : u .status / 128 % 2 ≡ 1 → bit 128 (u .control) ≡ nmiLevel u
+module _ (u : Ppu) (s : Bool) (e : s ≡ bit 128 (u .status)) where
+  pub nmi-1 : (r : Bool) → s ≡ true → r ≡ bit 128 (u .control) → r ≡ nmiLevel u
   unfolding nmiLevel
-  nmi-1 p = simp (eq-eqb _ _ p)
+  nmi-1 r p f = f ∙ rw (← e, p)
 
-  pub nmi-2 : (u .status / 128 % 2 ≡ 1 → ⊥) → false ≡ nmiLevel u
+  pub nmi-2 : s ≡ false → false ≡ nmiLevel u
   unfolding nmiLevel
-  nmi-2 p = simp (ne-eqb _ _ p)
+  nmi-2 p = rw (← e, p)
 
 pub ruleset nmi-cases = (nmi-1, nmi-2)
 

@@ -35,7 +35,7 @@ pub fn drawing(u: Ppu) -> bool
 pub fn well_formed(u: Ppu) -> bool
     ensures { λ r. ⌜ r ≡ isWellFormed u ⌝ }
 {
-    if u.status % 32 != 0 {
+    if bits::low8(u.status, 5) != 0 {
         return false;
     }
     if u.v >= 32768 {
@@ -54,8 +54,8 @@ pub fn well_formed(u: Ppu) -> bool
 pub fn nmi(u: Ppu) -> bool
     ensures { λ r. ⌜ r ≡ nmiLevel u ⌝ }
 {
-    if u.status / 128 % 2 == 1 {
-        return u.control / 128 % 2 == 1;
+    if bits::bit(u.status, 7) {
+        return bits::bit(u.control, 7);
     }
     false
 }
