@@ -1,0 +1,174 @@
+/* A program with no C library: it brings memcpy and memset and, for a processor that cannot multiply, the product; of the system it asks two things, to
+   write and to end. It makes calls of every kind on memory that follows no rule and prints a sum over every answer and every byte: the same on
+   every processor. With BARE_DIVIDES it executes a divide instruction first, which a processor without one refuses. */
+#include "ppu.h"
+
+__asm__(".text\n.globl _start\n_start:\n  call begin\n");
+
+#if defined __x86_64__
+enum { WRITE = 1, END = 60 };
+#define DIVIDE "mov $1, %%ecx\n xor %%edx, %%edx\n div %%ecx" ::: "eax", "ecx", "edx"
+
+static void ask(long what, long a, const void *b, long c)
+{
+    __asm__ volatile("syscall" : "+a"(what) : "D"(a), "S"(b), "d"(c) : "rcx", "r11", "memory");
+}
+#elif defined __riscv && __riscv_xlen == 64
+enum { WRITE = 64, END = 93 };
+#define DIVIDE ".word 0x02b54533" ::: "a0" /* div a0, a0, a1 */
+
+static void ask(long what, long a, const void *b, long c)
+{
+    register long number __asm__("a7") = what, first __asm__("a0") = a, third __asm__("a2") = c;
+    register const void *second __asm__("a1") = b;
+    __asm__ volatile("ecall" : "+r"(first) : "r"(number), "r"(second), "r"(third) : "memory");
+}
+#else
+#error "which system calls?"
+#endif
+
+void *memcpy(void *to, const void *from, size_t n)
+{
+    for (size_t i = 0; i < n; i++)
+        ((uint8_t *)to)[i] = ((const uint8_t *)from)[i];
+    return to;
+}
+
+void *memset(void *to, int byte, size_t n)
+{
+    for (size_t i = 0; i < n; i++)
+        ((uint8_t *)to)[i] = (uint8_t)byte;
+    return to;
+}
+
+uint64_t __muldi3(uint64_t a, uint64_t b)
+{
+    uint64_t product = 0;
+    for (; b; b >>= 1, a <<= 1)
+        product += b & 1 ? a : 0;
+    return product;
+}
+
+static uint8_t unit[PPU_RECORD_LENGTH], left[PPU_PATTERN_LENGTH], right[PPU_PATTERN_LENGTH], nametables[PPU_NAMETABLE_LENGTH];
+static uint8_t oam[PPU_OAM_LENGTH], palette[PPU_PALETTE_LENGTH], page[PPU_PAGE_LENGTH], line[PPU_LINE_LENGTH], colours[PPU_COLOURS_LENGTH];
+static uint8_t table[PPU_TABLE_LENGTH], rows[PPU_ROWS_LENGTH];
+static uint64_t state, sum, calls, lines;
+
+static unsigned any(void)
+{
+    state ^= state << 13;
+    state ^= state >> 7;
+    state ^= state << 17;
+    return (unsigned)(state >> 20 & 0xFFFF);
+}
+
+static void scatter(uint8_t *bytes, size_t n)
+{
+    for (size_t i = 0; i < n; i++)
+        bytes[i] = (uint8_t)any();
+}
+
+static void add(uint64_t number) { sum = (sum << 7 | sum >> 57) ^ number; }
+
+static void add_bytes(const uint8_t *bytes, size_t n)
+{
+    for (size_t i = 0; i < n; i++)
+        add(bytes[i]);
+}
+
+/* a log's record of a kind that is known or not */
+static uint64_t play(void)
+{
+    uint8_t record[PPU_LOG_RECORD_LENGTH];
+    scatter(record, sizeof record);
+    record[0] &= 3;
+    record[1] = record[0] == 2 ? 0 : 0x20;
+    if (record[0] != 1)
+        record[3] = 0;
+    return ppu_play(unit, sizeof unit, record, sizeof record, left, sizeof left, right, sizeof right, nametables, sizeof nametables, oam, sizeof oam,
+                    palette, sizeof palette, line, sizeof line, colours, sizeof colours);
+}
+
+static uint64_t one_call(void)
+{
+    unsigned kind = any() & 7, number = any(), byte = any() & 255;
+    unsigned address = 0x2000 + (number & 7);
+    if (kind < 2)
+        return ppu_read(unit, sizeof unit, (uint16_t)address, left, sizeof left, right, sizeof right, nametables, sizeof nametables, oam, sizeof oam,
+                        palette, sizeof palette);
+    if (kind < 4) /* the mask shows something more often than not */
+        return ppu_write(unit, sizeof unit, (uint16_t)address, (uint8_t)(address == 0x2001 ? byte | 0x1E : byte), left, sizeof left, right,
+                         sizeof right, nametables, sizeof nametables, oam, sizeof oam, palette, sizeof palette);
+    if (kind == 4) {
+        for (size_t i = 0; i < sizeof page; i++) /* sprites stand close together, so that lines have nine and more */
+            page[i] = (uint8_t)(any() & (i & 3 ? 255 : 63));
+        return ppu_dma(unit, sizeof unit, oam, sizeof oam, page, sizeof page);
+    }
+    if (kind == 5)
+        return ppu_search(unit, sizeof unit, (uint16_t)(number & 255), oam, sizeof oam);
+    if (kind == 6)
+        return play();
+    return ppu_run(unit, sizeof unit, (uint16_t)(number & 1 ? 1 : number >> 8), (uint8_t)(byte & 3), left, sizeof left, right, sizeof right,
+                   nametables, sizeof nametables, oam, sizeof oam, palette, sizeof palette, line, sizeof line, colours, sizeof colours);
+}
+
+static void text(void)
+{
+    scatter(table, sizeof table);
+    add(ppu_text(nametables, PPU_NAMETABLE_PAGE_LENGTH, table, sizeof table, rows, sizeof rows));
+    add_bytes(rows, sizeof rows);
+    add(ppu_page(rows, sizeof rows, table, sizeof table, nametables, PPU_NAMETABLE_PAGE_LENGTH));
+}
+
+/* calls on a board's unit */
+static void session(unsigned board)
+{
+    state = 88172645463325252u + board;
+    sum = 0;
+    scatter(left, sizeof left);
+    scatter(right, sizeof right);
+    scatter(nametables, sizeof nametables);
+    scatter(oam, sizeof oam);
+    scatter(palette, sizeof palette);
+    add(ppu_fresh(unit, sizeof unit, (uint8_t)board));
+    unit[PPU_AT_WARMED_UP] = 1;
+    for (int i = 0; i < 400; i++) {
+        uint64_t answer = one_call();
+        calls += ppu_number(answer) == PPU_DONE;
+        lines += ppu_lines(answer);
+        add(answer);
+        add_bytes(unit, sizeof unit);
+        add_bytes(line, sizeof line);
+        add_bytes(colours, sizeof colours);
+    }
+    text();
+    add_bytes(left, sizeof left);
+    add_bytes(right, sizeof right);
+    add_bytes(nametables, sizeof nametables);
+    add_bytes(oam, sizeof oam);
+    add_bytes(palette, sizeof palette);
+}
+
+static void print(const char *what, uint64_t number)
+{
+    static char said[] = "        0000000000000000\n";
+    for (int i = 0; i < 7; i++)
+        said[i] = what[i];
+    for (int i = 0; i < 16; i++)
+        said[8 + i] = "0123456789abcdef"[number >> (60 - 4 * i) & 15];
+    ask(WRITE, 1, said, sizeof said - 1);
+}
+
+void begin(void)
+{
+#ifdef BARE_DIVIDES
+    __asm__ volatile(DIVIDE);
+#endif
+    for (unsigned board = 0; board <= 16; board++) { /* where it is refused, the record stays */
+        session(board);
+        print("sum    ", sum);
+    }
+    print("done   ", calls);
+    print("lines  ", lines);
+    ask(END, 0, NULL, 0);
+}
