@@ -4,7 +4,7 @@
 #include <ucontext.h>
 #include "machine.h"
 
-enum { SIZE = 256 * 1024, PAINT = 0xA5, MOST = 4096 };
+enum { SIZE = 256 * 1024, PAINT = 0xA5, MOST = 2048 };
 
 static Machine m;
 static uint8_t *stack;

@@ -31,27 +31,30 @@ module _ (u : Ppu) (r : Bool) where
 
 pub ruleset drawing-cases = (drawing-1, drawing-2, drawing-3)
 
-module _ (u : Ppu) (k : ℕ) (e : k ≡ u .status % 32) where
-  pub formed-1 : (k ≡ 0 → ⊥) → false ≡ isWellFormed u
+module _ (u : Ppu) where
+  pub formed-1 : (u .status / 32 * 32 ≡ u .status → ⊥) → false ≡ isWellFormed u
   unfolding isWellFormed
-  formed-1 p = rw (← e, ne-eqb k 0 p)
+  formed-1 p = simp (ne-eqb (u .status % 32) 0 (λ z. p (omega arith)))
 
-  module _ (p : k ≡ 0) where
+  module _ (p : u .status / 32 * 32 ≡ u .status) where
+    low : u .status % 32 ≡ 0
+    low = omega arith
+
     pub formed-2 : 32768 ≤ u .v → false ≡ isWellFormed u
     unfolding isWellFormed
-    formed-2 q = simp (← e, eq-eqb k 0 p, le-ltb _ _ q)
+    formed-2 q = simp (eq-eqb _ _ low, le-ltb _ _ q)
 
     pub formed-3 : u .v < 32768 → 32768 ≤ u .t → false ≡ isWellFormed u
     unfolding isWellFormed
-    formed-3 q r = simp (← e, eq-eqb k 0 p, lt-ltb _ _ q, le-ltb _ _ r)
+    formed-3 q r = simp (eq-eqb _ _ low, lt-ltb _ _ q, le-ltb _ _ r)
 
     pub formed-4 : u .v < 32768 → u .t < 32768 → 8 ≤ u .x → false ≡ isWellFormed u
     unfolding isWellFormed
-    formed-4 q r s = simp (← e, eq-eqb k 0 p, lt-ltb _ _ q, lt-ltb _ _ r, le-ltb _ _ s)
+    formed-4 q r s = simp (eq-eqb _ _ low, lt-ltb _ _ q, lt-ltb _ _ r, le-ltb _ _ s)
 
     pub formed-5 : u .v < 32768 → u .t < 32768 → u .x < 8 → ltb (u .scanline) 262 ≡ isWellFormed u
     unfolding isWellFormed
-    formed-5 q r s = simp (← e, eq-eqb k 0 p, lt-ltb _ _ q, lt-ltb _ _ r, lt-ltb _ _ s)
+    formed-5 q r s = simp (eq-eqb _ _ low, lt-ltb _ _ q, lt-ltb _ _ r, lt-ltb _ _ s)
 
 pub ruleset formed-cases = (formed-1, formed-2, formed-3, formed-4, formed-5)
 

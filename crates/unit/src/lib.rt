@@ -31,11 +31,12 @@ pub fn drawing(u: Ppu) -> bool
     false
 }
 
-// The unit is within the limits of its record.
+// The unit is within the limits of its record. The low bits of status are tested by shifts alone: with a call of bits the compiler does not join
+// the tests, and a run of one line takes longer.
 pub fn well_formed(u: Ppu) -> bool
     ensures { λ r. ⌜ r ≡ isWellFormed u ⌝ }
 {
-    if bits::low8(u.status, 5) != 0 {
+    if (u.status >> 5) * 32 != u.status {
         return false;
     }
     if u.v >= 32768 {
