@@ -9,12 +9,15 @@ from collections import namedtuple
 
 SYMBOL = re.compile(r"^[0-9a-f]{16} (.{7}) (\S+)\t[0-9a-f]{16} (?:\.hidden )?(.+)$")
 RELOCATION = re.compile(r"^([0-9a-f]{16}) R_\S+\s+(\S.*?)([+-]0x[0-9a-f]+)?$")
+UNREAD = re.compile(r"^\(bad\)$")
 INSTRUCTION = re.compile(r"^ *([0-9a-f]+):\t(?:(?:rep\w*|lock|bnd|notrack|data16|rex\S*|[c-gs]s) )*(\S+) *(.*)$")
 
 # of integers, of the x87 unit, of SSE and AVX
 DIVIDES = re.compile(r"^(i?div[bwlq]?|fi?divr?[slp]?|fprem1?|v?div[sp][sdh])$")
 # Arithmetic, comparisons and conversions: moves, bit operations and shuffles of floats are used for integers too.
 FLOATS = re.compile(r"^(f[a-z]\w*|v?cvt\w+|v?(add|sub|mul|div|min|max|r?sqrt|rcp|cmp\w*|u?comi|hadd|hsub|addsub|round|dp|fn?m(add|sub)\w*)[sp][sdh])$")
+# functions of a compiler's or C's library that divide in place of an instruction
+DIVIDING = re.compile(r"^(__(aeabi_)?u?[il]*(div|mod|rem)\w*|l*div|fmod\w*|remainder\w*)$")
 # what enters the system
 SYSTEM = re.compile(r"^(syscall|sysenter|int|int3|in[bwl]?|out[bwl]?|hlt)$")
 
