@@ -7,6 +7,7 @@ import re
 import subprocess
 from collections import namedtuple
 
+WRITABLE = re.compile(r"^ +\d+ (\S+) +(?!0{8} )[0-9a-f]{8} (?!.*READONLY).*\bALLOC")
 SYMBOL = re.compile(r"^[0-9a-f]{16} (.{7}) (\S+)\t[0-9a-f]{16} (?:\.hidden )?(.+)$")
 RELOCATION = re.compile(r"^([0-9a-f]{16}) R_\S+\s+(\S.*?)([+-]0x[0-9a-f]+)?$")
 UNREAD = re.compile(r"^\(bad\)$")
@@ -46,8 +47,8 @@ class Code:
         for line in objdump(path, "-h", "-t", "-r"):
             if ":     file format " in line:
                 member = line.split(":")[0]
-            elif re.match(r" +\d+ \.(data|bss|tdata|tbss)\S* +(?!0+ )[0-9a-f]+ ", line):
-                self.data.add((member, line.split()[1]))
+            elif section_head := WRITABLE.match(line):
+                self.data.add((member, section_head[1]))
             elif line.startswith("RELOCATION RECORDS FOR ["):
                 section = (member, line[line.index("[") + 1:line.rindex("]")])
             elif symbol := SYMBOL.match(line):

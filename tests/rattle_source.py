@@ -62,7 +62,8 @@ class Module:
         if word == "impl":
             raise Unreadable(f"{self.file}: methods are not read here")
         if word == "fn":
-            return self.function(tokens, at, "pub" in before[-1:] + before[-5:-4], "extern" in before)
+            exported = before[1:] == ["extern", '"', "C", '"']
+            return self.function(tokens, at, before[0 if exported else -1:][:1] == ["pub"], exported)
         return closing(tokens, at) + 1 if word == "{" else at + 1
 
     def use(self, words, public):

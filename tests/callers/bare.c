@@ -1,6 +1,7 @@
 /* A program with no C library: it brings memcpy and memset and, for a processor that cannot multiply, the product; of the system it asks two things, to
    write and to end. It makes calls of every kind on memory that follows no rule and prints a sum over every answer and every byte: the same on
-   every processor. With BARE_DIVIDES it executes a divide instruction first, which a processor without one refuses. */
+   every processor. With BARE_DIVIDES it executes a divide instruction first, which a processor without one refuses; with BARE_LINES it only runs so
+   many lines, with BARE_MASK as mask, so that a line's instructions can be counted. */
 #include "ppu.h"
 
 __asm__(".text\n.globl _start\n_start:\n  call begin\n");
@@ -120,16 +121,36 @@ static void text(void)
     add(ppu_page(rows, sizeof rows, table, sizeof table, nametables, PPU_NAMETABLE_PAGE_LENGTH));
 }
 
-/* calls on a board's unit */
-static void session(unsigned board)
+static void scatter_all(unsigned seed)
 {
-    state = 88172645463325252u + board;
-    sum = 0;
+    state = 88172645463325252u + seed;
     scatter(left, sizeof left);
     scatter(right, sizeof right);
     scatter(nametables, sizeof nametables);
     scatter(oam, sizeof oam);
     scatter(palette, sizeof palette);
+}
+
+#ifdef BARE_LINES
+static void some_lines(void)
+{
+    scatter_all(0);
+    for (unsigned i = 0; i < 64; i++)
+        oam[4 * i] = (uint8_t)(i & 0xF8); /* eight on each line */
+    ppu_fresh(unit, sizeof unit, PPU_VERTICAL);
+    unit[PPU_AT_MASK] = BARE_MASK;
+    unit[PPU_AT_NEXT_LINE] = 1;
+    ppu_run(unit, sizeof unit, BARE_LINES, PPU_RUN_ALL, left, sizeof left, right, sizeof right, nametables, sizeof nametables, oam, sizeof oam, palette,
+            sizeof palette, line, sizeof line, colours, sizeof colours);
+    ask(END, 0, NULL, 0);
+}
+#endif
+
+/* calls on a board's unit */
+static void session(unsigned board)
+{
+    scatter_all(board);
+    sum = 0;
     add(ppu_fresh(unit, sizeof unit, (uint8_t)board));
     unit[PPU_AT_WARMED_UP] = 1;
     for (int i = 0; i < 400; i++) {
@@ -163,6 +184,9 @@ void begin(void)
 {
 #ifdef BARE_DIVIDES
     __asm__ volatile(DIVIDE);
+#endif
+#ifdef BARE_LINES
+    some_lines();
 #endif
     for (unsigned board = 0; board <= 16; board++) { /* where it is refused, the record stays */
         session(board);
