@@ -1,14 +1,13 @@
 /* A program with no C library: it brings memcpy and memset and, for a processor that cannot multiply, the product; of the system it asks two things, to
    write and to end. It makes calls of every kind on memory that follows no rule and prints a sum over every answer and every byte: the same on
-   every processor. With BARE_DIVIDES it executes a divide instruction first, which a processor without one refuses; with BARE_LINES it only runs so
-   many lines, with BARE_MASK as mask, so that a line's instructions can be counted. */
+   every processor. With BARE_DIVIDES it executes a divide instruction of RISC-V first, which a processor without one refuses; with BARE_LINES it only
+   runs so many lines, with BARE_MASK as mask, so that a line's instructions can be counted. */
 #include "ppu.h"
 
 __asm__(".text\n.globl _start\n_start:\n  call begin\n");
 
 #if defined __x86_64__
 enum { WRITE = 1, END = 60 };
-#define DIVIDE "mov $1, %%ecx\n xor %%edx, %%edx\n div %%ecx" ::: "eax", "ecx", "edx"
 
 static void ask(long what, long a, const void *b, long c)
 {
@@ -16,7 +15,6 @@ static void ask(long what, long a, const void *b, long c)
 }
 #elif defined __riscv && __riscv_xlen == 64
 enum { WRITE = 64, END = 93 };
-#define DIVIDE ".word 0x02b54533" ::: "a0" /* div a0, a0, a1 */
 
 static void ask(long what, long a, const void *b, long c)
 {
@@ -183,7 +181,7 @@ static void print(const char *what, uint64_t number)
 void begin(void)
 {
 #ifdef BARE_DIVIDES
-    __asm__ volatile(DIVIDE);
+    __asm__ volatile(".word 0x02b54533" ::: "a0"); /* div a0, a0, a1 */
 #endif
 #ifdef BARE_LINES
     some_lines();
