@@ -19,6 +19,8 @@ DIVIDES = re.compile(r"^(i?div[bwlq]?|fi?divr?[slp]?|fprem1?|v?div[sp][sdh])$")
 FLOATS = re.compile(r"^(f[a-z]\w*|v?cvt\w+|v?(add|sub|mul|div|min|max|r?sqrt|rcp|cmp\w*|u?comi|hadd|hsub|addsub|round|dp|fn?m(add|sub)\w*)[sp][sdh])$")
 # functions of a compiler's or C's library that divide in place of an instruction
 DIVIDING = re.compile(r"^(__(aeabi_)?u?[il]*(div|mod|rem)\w*|l*div|fmod\w*|remainder\w*)$")
+# a place below the stack's end, which a function that calls nothing may use
+BELOW = re.compile(r"-(0x[0-9a-f]+)\(%rsp")
 # what enters the system
 SYSTEM = re.compile(r"^(syscall|sysenter|int|int3|in[bwl]?|out[bwl]?|hlt)$")
 
@@ -121,7 +123,7 @@ class Code:
             depth[at] = now
             i = code[place[at]]
             to = next((r for r in self.refers.get(section, ()) if at <= r.offset < ends[place[at]]), None)
-            most = max(most, now)
+            most = max([most, now] + [now + int(by, 16) for by in BELOW.findall(i.operands)])
             if i.name in ("call", "jmp") and to and not i.operands.startswith("*"):
                 callee = self.lead(section[0], to.name)
                 most = max(most, now + (self.deepest(callee) if callee else 8) - (8 if i.name == "jmp" else 0))
