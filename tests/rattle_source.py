@@ -8,7 +8,7 @@ import subprocess
 from collections import namedtuple
 from pathlib import Path
 
-TOKEN = re.compile(r"""//[^\n]*|/\*.*?\*/|b"(?:\\.|[^"\\])*"|b'(?:\\.|[^'\\])'|\w+|::|->|[/%]=?|\S""", re.S)
+TOKEN = re.compile(r"""//[^\n]*|/\*.*?\*/|b"(?:\\.|[^"\\])*"|b'(?:\\.|[^'\\])'|\w+|::|->|\.\.=?|[/%]=?|\S""", re.S)
 KEYWORDS = set("as break const continue else enum extern fn for if in let loop match mod mut pub ref return static struct type use while".split())
 NUMBERS = set("u8 u16 u32 u64 usize i8 i16 i32 i64 isize f32 f64 bool".split())
 BUILT_IN = {"count_ones", "leading_zeros", "trailing_zeros"}  # of a number, by its type's name
@@ -169,6 +169,8 @@ class Source:
         module = self.module(function.name.split("::")[:-1])
         words = [t.text for t in function.body]
         for i, word in enumerate(words):
+            if words[i:i + 2] == [")", "("]:
+                raise Unreadable(f"{function.name}: a call of what stands in brackets")
             if words[i + 1:i + 2] != ["("] or not re.match(r"[^\W\d]", word) or word in KEYWORDS:
                 continue
             if words[i - 1:i] == ["."]:
@@ -179,12 +181,13 @@ class Source:
             while words[i - 1:i] == ["::"]:
                 path.insert(0, words[i - 2])
                 i -= 2
-            if word[0].isupper() or path[0] in NUMBERS and word in BUILT_IN:
-                continue  # a variant or a struct made or matched; what the language has of its own
+            if path[0] in NUMBERS and word in BUILT_IN:
+                continue
             found = self.find(path, module)
-            if found is None:
+            if found:
+                yield found.name
+            elif not word[0].isupper():  # else a variant or a struct is made or matched
                 raise Unreadable(f"{function.name}: the call of {'::'.join(path)} leads nowhere")
-            yield found.name
 
     def named(self, name):
         path = name.split("::")
@@ -206,5 +209,7 @@ class Source:
             if self.crates[name].is_relative_to(self.root):
                 module = self.module([name])
                 if any(f.exported for f in module.functions.values()):
-                    called = [f for f in module.functions.values() if f.public] + [self.find([n], module) for n in module.passed_on]
-                    yield name, [f for f in called if f]
+                    passed_on = {n: self.find([n], module) for n in module.passed_on if not n[0].isupper()}
+                    if None in passed_on.values():
+                        raise Unreadable(f"{name}: what it passes on leads nowhere: {passed_on}")
+                    yield name, [f for f in module.functions.values() if f.public] + list(passed_on.values())

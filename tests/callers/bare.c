@@ -26,17 +26,18 @@ static void ask(long what, long a, const void *b, long c)
 #error "which system calls?"
 #endif
 
+/* volatile: else a compiler may make calls of memcpy and memset of these loops */
 void *memcpy(void *to, const void *from, size_t n)
 {
     for (size_t i = 0; i < n; i++)
-        ((uint8_t *)to)[i] = ((const uint8_t *)from)[i];
+        ((volatile uint8_t *)to)[i] = ((const uint8_t *)from)[i];
     return to;
 }
 
 void *memset(void *to, int byte, size_t n)
 {
     for (size_t i = 0; i < n; i++)
-        ((uint8_t *)to)[i] = (uint8_t)byte;
+        ((volatile uint8_t *)to)[i] = (uint8_t)byte;
     return to;
 }
 
