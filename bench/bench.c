@@ -550,9 +550,9 @@ static void count_all(const char *kind, const Work *work, int count, int who)
 {
     for (int i = 0; i < count; i++) {
         unsigned n = 0;
-        set_up(&work[i]);
         mark();
         for (int k = 0; k < MEASURED; k++) {
+            set_up(&work[i]); /* for each: how many instructions an access takes goes by where v leads */
             unsigned done = takes_part(k, who) ? work[i].pass(&drawers[k]) : 0;
             n = k ? n : done;
         }
