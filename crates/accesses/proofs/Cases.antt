@@ -10,11 +10,12 @@ use borrow.Author.Tests.{eqb-true, eq-eqb, ne-eqb, lt-ltb, le-ltb}
 use Rattle.model.specs.declared.Board.{Board}
 use Rattle.model.specs.declared.Ppu.{Ppu}
 use Rattle.model.specs.declared.Access.{Access}
-use Rattle.model.specs.Unit.{state, accessMemory, dmaMemory, video, VideoLengths, fresh, isWellFormed, isDrawing}
+use Rattle.model.specs.Unit.{state, accessMemory, dmaMemory, video, VideoLengths, nametableLength, fresh, isWellFormed, isDrawing}
 use Rattle.model.specs.Record.{boardAt, boardOk, unitOf, recordOf}
 use Rattle.model.specs.Sprites.{lookedAt}
 use Rattle.model.specs.Calls.{access, doneAnswer, lookedAnswer, refusedAccess, made, unmade, freshCall, loadCall, saved, saveCall, own, readCall, writeCall, dmaCall, searchCall, Outcome, accessOutcome, dmaOutcome, accessSizes, dmaSizes, blockedRead, blockedWrite, order, accessRefusal, plainRefusal, refusalOf, readDone, writeDone, dmaDone, searchDone, done, onLent}
-use Rattle.model.proofs.Accepted.{is-refused, is-done, order-0, and-none, all5, form-long, is-made, is-unmade}
+use Rattle.model.proofs.Accepted.{is-refused, is-done, order-sized, and-none, form-long, is-made, is-unmade}
+use Rattle.model.proofs.Tests.{all5}
 
 -- making and saving a unit
 module _ (n : ℕ) (k : Bool) (r : Access) where
@@ -29,14 +30,14 @@ module _ (n : ℕ) (k : Bool) (r : Access) where
 pub ruleset fresh-cases = (fresh-1, fresh-2)
 
 pub load-long : (l : List ℕ) (n : ℕ) → n ≡ loadCall l .answer .number → n ≡ 0 → length l ≡ 16
-load-long l n e h = form-long true l n e h
+load-long l n e h = form-long l n e h
 
 module _ (l : List ℕ) (n : ℕ) (e : n ≡ loadCall l .answer .number) (r : Access) where
   pub load-1 : (n ≡ 0 → ⊥) → r ≡ unmade n → r ≡ loadCall l
   load-1 h f = f ∙ sym (is-unmade l n e h)
 
   pub load-2 : (u : Ppu) → n ≡ 0 → u ≡ unitOf l → r ≡ access (doneAnswer 0 u) u → r ≡ loadCall l
-  load-2 u h f g = g ∙ ap made f ∙ sym (is-made true l n e h)
+  load-2 u h f g = g ∙ ap made f ∙ sym (is-made l n e h)
 
 pub ruleset load-cases = (load-1, load-2)
 
@@ -58,9 +59,9 @@ pub ruleset save-cases = (save-1, save-2, save-3)
 -- an accepted access has memories of the right lengths
 module _ (d : Board) (l r n o p : ℕ) (s : Bool) (u : Ppu) (a : ℕ) (c : Bool) (k : ℕ)
     (hs : s ≡ accessSizes d l r n o p) (hk : k ≡ accessRefusal s u a c) (h : k ≡ 0) where
-  sized : (eqb l 4096 ≡ true) × (eqb r 4096 ≡ true) × (eqb n 2048 ≡ true) × (eqb o 256 ≡ true) × (eqb p 32 ≡ true)
+  sized : (eqb l 4096 ≡ true) × (eqb r 4096 ≡ true) × (eqb n (nametableLength d) ≡ true) × (eqb o 256 ≡ true) × (eqb p 32 ≡ true)
   unfolding accessRefusal
-  sized = all5 (eqb l 4096) (eqb r 4096) (eqb n 2048) (eqb o 256) (eqb p 32) (sym hs ∙ order-0 _ _ _ _ _ (sym hk ∙ h))
+  sized = all5 (eqb l 4096) (eqb r 4096) (eqb n (nametableLength d)) (eqb o 256) (eqb p 32) (sym hs ∙ order-sized _ _ _ _ _ (sym hk ∙ h))
 
   pub long-oam : o ≡ 256
   long-oam = eqb-true o 256 (sized .3)
@@ -72,7 +73,7 @@ long-video d l r n p o s u a c k hs hk h =
     record {
       left = eqb-true (length l) 4096 (z .0);
       right = eqb-true (length r) 4096 (z .1);
-      nametables = eqb-true (length n) 2048 (z .2);
+      nametables = eqb-true (length n) (nametableLength d) (z .2);
       palette = eqb-true (length p) 32 (z .4);
     }
 
@@ -106,7 +107,7 @@ pub ruleset write-cases = (write-refused, write-done)
 module _ (u : Ppu) (o p : List ℕ) (s : Bool) (k : ℕ) (hs : s ≡ dmaSizes (length o) (length p)) (hk : k ≡ plainRefusal s u) where
   same-dma : k ≡ refusalOf (dmaCall own p) (state u (dmaMemory o))
   unfolding refusalOf plainRefusal
-  same-dma = hk ∙ rw hs (ap (order true (dmaSizes (length o) (length p)) (isWellFormed u) true) (sym (and-none (isDrawing u))))
+  same-dma = hk ∙ rw hs (ap (order true (isWellFormed u) (dmaSizes (length o) (length p)) true) (sym (and-none (isDrawing u))))
 
   pub dma-refused : (x : Access) → (k ≡ 0 → ⊥) → x ≡ refusedAccess k u → dmaOutcome x o ≡ onLent (dmaCall own p) (state u (dmaMemory o))
   dma-refused x h e = ap (λ (y : Access). dmaOutcome y o) e ∙ is-refused (dmaCall own p) (state u (dmaMemory o)) k same-dma h
@@ -117,7 +118,7 @@ module _ (u : Ppu) (o p : List ℕ) (s : Bool) (k : ℕ) (hs : s ≡ dmaSizes (l
 module _ (u : Ppu) (o p : ℕ) (s : Bool) (k : ℕ) (hs : s ≡ dmaSizes o p) (hk : k ≡ plainRefusal s u) (h : k ≡ 0) where
   dma-sized : (eqb o 256 ≡ true) × (eqb p 256 ≡ true)
   unfolding plainRefusal
-  dma-sized = both (eqb o 256) (eqb p 256) (sym hs ∙ order-0 _ _ _ _ _ (sym hk ∙ h))
+  dma-sized = both (eqb o 256) (eqb p 256) (sym hs ∙ order-sized _ _ _ _ _ (sym hk ∙ h))
     where
       both : (a b : Bool) → a && b ≡ true → (a ≡ true) × (b ≡ true)
       both true b e = (refl, e)
@@ -137,8 +138,8 @@ module _ (u : Ppu) (n : ℕ) (o : List ℕ) (x : Access) where
   search-1 gt e =
       ap (λ (y : Access). dmaOutcome y o) e ∙ is-refused (searchCall own n) (state u (dmaMemory o)) 5 unknown (λ z. omega (arith, z))
     where
-      five : (s w g d : Bool) → _≡_ {A = ℕ} 5 (order false s w g d)
-      five s w g d = unfold order in refl
+      five : (w s g d : Bool) → _≡_ {A = ℕ} 5 (order false w s g d)
+      five w s g d = unfold order in refl
 
       unknown : 5 ≡ refusalOf (searchCall own n) (state u (dmaMemory o))
       unknown = unfold refusalOf in rw (le-ltb n 240 (omega arith)) (five _ _ _ _)
@@ -146,7 +147,7 @@ module _ (u : Ppu) (n : ℕ) (o : List ℕ) (x : Access) where
   module _ (le : n ≤ 239) (k : ℕ) (hk : k ≡ plainRefusal (eqb (length o) 256) u) where
     same-search : k ≡ refusalOf (searchCall own n) (state u (dmaMemory o))
     unfolding refusalOf plainRefusal
-    same-search = hk ∙ rw (lt-ltb n 240 (omega arith)) (ap (order true (eqb (length o) 256) (isWellFormed u) true) (sym (and-none (isDrawing u))))
+    same-search = hk ∙ rw (lt-ltb n 240 (omega arith)) (ap (order true (isWellFormed u) (eqb (length o) 256) true) (sym (and-none (isDrawing u))))
 
     pub search-2 : (k ≡ 0 → ⊥) → x ≡ refusedAccess k u → dmaOutcome x o ≡ onLent (searchCall own n) (state u (dmaMemory o))
     search-2 h e = ap (λ (y : Access). dmaOutcome y o) e ∙ is-refused (searchCall own n) (state u (dmaMemory o)) k same-search h
@@ -158,6 +159,6 @@ module _ (u : Ppu) (n : ℕ) (o : List ℕ) (x : Access) where
 
 pub search-oam : (u : Ppu) (o k : ℕ) → k ≡ plainRefusal (eqb o 256) u → k ≡ 0 → o ≡ 256
 unfolding plainRefusal
-search-oam u o k hk h = eqb-true o 256 (order-0 _ _ _ _ _ (sym hk ∙ h))
+search-oam u o k hk h = eqb-true o 256 (order-sized _ _ _ _ _ (sym hk ∙ h))
 
 pub ruleset search-cases = (search-1, search-2, search-3)

@@ -1,6 +1,6 @@
 // Public calls on a unit by value: fresh, load, save make and keep one; read, write, dma are its accesses; search reports the search for
-// overflow. None has a `requires`: a call refuses what it cannot take, in the order 5, 2, 3, 1, 4, and a refused call leaves the unit, the
-// record and every lent memory as they were.
+// overflow. None has a `requires`: a call refuses what it cannot take, in the order 5, 2 for a record, 3, 2 for lent memory, 1, 4, and a refused
+// call leaves the unit, the record and every lent memory as they were.
 ghost use mathlib.Core.Path.{_≡_};
 ghost use Rattle.model.specs.Unit.{state, accessMemory, dmaMemory};
 ghost use Rattle.model.specs.Calls.{
@@ -36,7 +36,7 @@ pub fn fresh(board: u8) -> Access
 pub fn load(saved: &[u8]) -> Access
     ensures { λ r. ⌜ r ≡ loadCall (now (saved .entry)) ⌝ }
 {
-    let n = refusals::record_refusal(true, saved);
+    let n = refusals::record_refusal(saved);
     if n != 0 {
         return refusals::unmade(n);
     }

@@ -5,31 +5,37 @@ use mathlib.Core.Bool.{Bool, true, false}
 use mathlib.Core.List.{List, [], _∷_}
 use native.Mathlib.Nat.{add-sub-cancel-left}
 use native.Mathlib.Omega.{arith}
+use lib.Dec.{eqb, eqb→eq, ltb, ltb→lt}
 use lib.ListN.{length, getD, take, drop}
 use borrow.Author.Tests.{eq-eqb, ne-eqb, lt-ltb, le-ltb}
 use Rattle.model.specs.declared.Board.{Board}
 use Rattle.model.specs.declared.Wiring.{Wiring}
 use Rattle.model.specs.declared.Place.{Place}
 use Rattle.model.specs.declared.Place.the-variants.{Pattern, Nametable, Palette}
+use Rattle.model.specs.Unit.{nametablesFor, nametableLength}
 use Rattle.model.proofs.Address.{page-small}
 use Rattle.address.proofs.Table.{at2}
 use Rattle.model.specs.Address.{wiringNumber, pageAt, cellOf, paletteCell, placeOf, tileIn, tilePart, quarterIn, quarterPart}
 
 -- the table's rule, once over all entries
 abbrev pub pages : List (List ℕ)
-pages = (0 ∷ 0 ∷ 1 ∷ 1 ∷ []) ∷ (0 ∷ 1 ∷ 0 ∷ 1 ∷ []) ∷ (0 ∷ 0 ∷ 0 ∷ 0 ∷ []) ∷ (1 ∷ 1 ∷ 1 ∷ 1 ∷ []) ∷ []
+pages = (0 ∷ 0 ∷ 1 ∷ 1 ∷ []) ∷ (0 ∷ 1 ∷ 0 ∷ 1 ∷ []) ∷ (0 ∷ 0 ∷ 0 ∷ 0 ∷ []) ∷ (1 ∷ 1 ∷ 1 ∷ 1 ∷ []) ∷ (0 ∷ 1 ∷ 2 ∷ 3 ∷ []) ∷ []
 
-pub page-1 : (w q : ℕ) → w < 4 → q < 4 → getD (getD pages w []) q 0 ≡ pageAt w q
+pub page-1 : (w q : ℕ) → w < 5 → q < 4 → getD (getD pages w []) q 0 ≡ pageAt w q
 unfolding pageAt
-page-1 = at2 4 pageAt pages tt
+page-1 w q h k = eqb→eq _ _ (at2 4 (λ i j x. eqb x (pageAt i j)) pages tt w q h k)
 
-pub page-2 : (w q : ℕ) → w < 4 → q < 4 → getD (getD pages w []) q 0 < 2
-page-2 w q h k = rw (page-1 w q h k) (page-small w q k)
+pub page-2 : (w q : ℕ) → w < 5 → q < 4 → getD (getD pages w []) q 0 < 4
+page-2 w q h k = ltb→lt _ _ (at2 4 (λ i j x. ltb x 4) pages tt w q h k)
 
 pub page-3 : (w : Wiring) (q n r : ℕ) → n ≡ wiringNumber w → r ≡ pageAt n q → r ≡ pageAt (wiringNumber w) q
 page-3 w q n r e g = rw (g, e)
 
-pub ruleset page-cases = (page-1, page-2, page-3)
+-- every page lies in the board's nametable RAM
+pub page-4 : (w : Wiring) (q n r : ℕ) → q < 4 → n ≡ wiringNumber w → r ≡ pageAt n q → r * 1024 + 1024 ≤ nametablesFor w
+page-4 w q n r h e g = rw (g, e) (page-small w q h)
+
+pub ruleset page-cases = (page-1, page-2, page-3, page-4)
 
 module _ (w : Wiring) (a p r : ℕ) where
   pub cell-1 : p ≡ pageAt (wiringNumber w) (a / 1024 % 4) → r ≡ p * 1024 + a % 1024 → r ≡ cellOf w a
@@ -101,13 +107,13 @@ pub quarter-part : (w : Wiring) (n : List ℕ) (q p : ℕ) (x : List ℕ) → p 
 unfolding quarterIn
 quarter-part w n q p x h e = e ∙ ap (λ (k : ℕ). take k (drop (p * 1024) n)) (add-sub-cancel-left (p * 1024) 1024) ∙ rw h
 
-module _ (d : Board) (n : List ℕ) (q : ℕ) (x : List ℕ) where
-  pub quarter-1 : (length n ≡ 2048 → ⊥) → x ≡ [] → x ≡ quarterPart d n q
+module _ (d : Board) (n : List ℕ) (q k : ℕ) (x : List ℕ) (ek : k ≡ nametableLength d) where
+  pub quarter-1 : (length n ≡ k → ⊥) → x ≡ [] → x ≡ quarterPart d n q
   unfolding quarterPart
-  quarter-1 h e = e ∙ rw (ne-eqb (length n) 2048 h)
+  quarter-1 h e = e ∙ rw (ne-eqb (length n) (nametableLength d) (λ z. h (z ∙ sym ek)))
 
-  pub quarter-2 : length n ≡ 2048 → x ≡ quarterIn (d .wiring) n q → x ≡ quarterPart d n q
+  pub quarter-2 : length n ≡ k → x ≡ quarterIn (d .wiring) n q → x ≡ quarterPart d n q
   unfolding quarterPart
-  quarter-2 h e = e ∙ rw (eq-eqb (length n) 2048 h)
+  quarter-2 h e = e ∙ rw (eq-eqb (length n) (nametableLength d) (h ∙ ek))
 
 pub ruleset quarter-cases = (quarter-1, quarter-2)

@@ -1,33 +1,60 @@
 // Where an address leads, the part of a table that a tile is, and the page of a quarter. Inner functions, not public calls.
-// wiring_number, page, cell, palette_cell, lead; tile; quarter.
+// wiring_number, nametable_length, page, cell, palette_cell, lead; tile; quarter.
 ghost use mathlib.Core.Path.{_≡_};
-ghost use Prim.Native.Nat.{_<_, _%_};
+ghost use Prim.Native.Nat.{_+_, _*_, _%_, _≤_, _<_};
 ghost use lib.ListN.{length};
-ghost use Rattle.model.specs.Unit.{patternLength, nametableLength};
+ghost use Rattle.model.specs.Unit.{patternLength, nametablesFor, nametableLength};
 ghost use Rattle.model.specs.Address.{wiringNumber, pageAt, cellOf, paletteCell, placeOf, tileIn, tilePart, quarterIn, quarterPart};
 use model::Board;
 use model::Place;
 use model::Wiring;
 
 // The page of each quarter, by wiring.
-const PAGES: [[u8; 4]; 4] = [[0, 0, 1, 1], [0, 1, 0, 1], [0, 0, 0, 0], [1, 1, 1, 1]];
+const PAGES: [[u8; 4]; 5] = [
+    [0, 0, 1, 1],
+    [0, 1, 0, 1],
+    [0, 0, 0, 0],
+    [1, 1, 1, 1],
+    [0, 1, 2, 3],
+];
 
 // The wiring's number in the board byte and in the page table.
 pub fn wiring_number(w: Wiring) -> u8
-    ensures { λ r. ⌜ (r ≡ wiringNumber w) × (r < 4) ⌝ }
+    ensures { λ r. ⌜ (r ≡ wiringNumber w) × (r < 5) ⌝ }
 {
     match w {
         Wiring::Horizontal => 0,
         Wiring::Vertical => 1,
         Wiring::FirstPage => 2,
         Wiring::SecondPage => 3,
+        Wiring::FourPages => 4,
     }
+}
+
+// How long nametable RAM is, by the wiring, and by the board.
+fn nametables_for(w: Wiring) -> usize
+    ensures { λ r. ⌜ r ≡ nametablesFor w ⌝ }
+{
+    match w {
+        Wiring::Horizontal => 2048,
+        Wiring::Vertical => 2048,
+        Wiring::FirstPage => 2048,
+        Wiring::SecondPage => 2048,
+        Wiring::FourPages => 4096,
+    }
+}
+
+pub fn nametable_length(board: Board) -> usize
+    ensures { λ r. ⌜ r ≡ nametableLength board ⌝ }
+{
+    let w = board.wiring;
+    nametables_for(w)
 }
 
 // An entry of the page table.
 fn page_entry(wiring: usize, quarter: usize) -> u8
-    requires { ⌜ (wiring < 4) × (quarter < 4) ⌝ }
-    ensures { λ r. ⌜ (r ≡ pageAt wiring quarter) × (r < 2) ⌝ }
+    requires { ⌜ (wiring < 5) × (quarter < 4) ⌝ }
+    ensures { λ r. ⌜ (r ≡ pageAt wiring quarter) × (r < 4) ⌝ }
 {
     PAGES[wiring][quarter]
 }
@@ -35,7 +62,7 @@ fn page_entry(wiring: usize, quarter: usize) -> u8
 // The nametable page that answers for a quarter of $2000-$2FFF.
 pub fn page(w: Wiring, quarter: usize) -> usize
     requires { ⌜ quarter < 4 ⌝ }
-    ensures { λ r. ⌜ (r ≡ pageAt (wiringNumber w) quarter) × (r < 2) ⌝ }
+    ensures { λ r. ⌜ (r ≡ pageAt (wiringNumber w) quarter) × (r < 4) × (r * 1024 + 1024 ≤ nametablesFor w) ⌝ }
 {
     let n = wiring_number(w);
     page_entry(n as usize, quarter) as usize
@@ -43,7 +70,7 @@ pub fn page(w: Wiring, quarter: usize) -> usize
 
 // The cell of nametable RAM that an address leads to.
 pub fn cell(w: Wiring, a: u16) -> usize
-    ensures { λ r. ⌜ (r ≡ cellOf w a) × (r < 2048) ⌝ }
+    ensures { λ r. ⌜ (r ≡ cellOf w a) × (r < nametablesFor w) ⌝ }
 {
     let at = a as usize;
     page(w, at / 1024 % 4) * 1024 + at % 1024
@@ -120,11 +147,11 @@ fn quarter_in(board: Board, nametables: &[u8], q: u8) -> &[u8]
     &nametables[at..at + 1024]
 }
 
-// The part of nametable RAM that quarter q modulo 4 shows; an empty part where nametable RAM has another length.
+// The part of nametable RAM that quarter q modulo 4 shows; an empty part where nametable RAM has another length than the board's.
 pub fn quarter(board: Board, nametables: &[u8], q: u8) -> &[u8]
     ensures { λ r. ⌜ now r ≡ quarterPart board (now (nametables .entry)) q ⌝ }
 {
-    if nametables.len() != 2048 {
+    if nametables.len() != nametable_length(board) {
         return &nametables[0..0];
     }
     quarter_in(board, nametables, q)

@@ -1,7 +1,7 @@
 -- A call is refused, or done; and what the one or the other says of it. For the contracts of the calls.
 use Prim.Native.Nat.{ℕ, zero, suc}
 use mathlib.Core.Path.{_≡_, refl, sym, ap, _∙_}
-use mathlib.Core.Bool.{Bool, true, false, cond, true≢false, _&&_}
+use mathlib.Core.Bool.{Bool, true, false, cond, _&&_}
 use mathlib.Core.List.{List}
 use native.Mathlib.Omega.{arith}
 use lib.Dec.{eqb}
@@ -47,42 +47,31 @@ gated s c P a b = go (refusalOf c s)
     go zero = a
     go (suc k) = b k
 
--- the first refusal is 0: the lengths fit, and the unit is well formed
-pub order-0 : (k s w g d : Bool) → order k s w g d ≡ 0 → s ≡ true
+-- the first refusal is 0: the unit is well formed, and the lengths fit
+pub order-formed : (k w s g d : Bool) → order k w s g d ≡ 0 → w ≡ true
 unfolding order
-order-0 true true w g d e = refl
-order-0 true false w g d e = absurd (omega (arith, e))
-order-0 false s w g d e = absurd (omega (arith, e))
+order-formed true true s g d e = refl
+order-formed true false s g d e = absurd (omega (arith, e))
+order-formed false w s g d e = absurd (omega (arith, e))
 
-pub order-formed : (k s w g d : Bool) → order k s w g d ≡ 0 → w ≡ true
+pub order-sized : (k w s g d : Bool) → order k w s g d ≡ 0 → s ≡ true
 unfolding order
-order-formed true true true g d e = refl
-order-formed true true false g d e = absurd (omega (arith, e))
-order-formed true false w g d e = absurd (omega (arith, e))
-order-formed false s w g d e = absurd (omega (arith, e))
+order-sized true true true g d e = refl
+order-sized true true false g d e = absurd (omega (arith, e))
+order-sized true false s g d e = absurd (omega (arith, e))
+order-sized false w s g d e = absurd (omega (arith, e))
 
 pub and-none : (b : Bool) → b && false ≡ false
 and-none true = refl
 and-none false = refl
 
-pub all5 : (a b c d e : Bool) → a && (b && (c && (d && e))) ≡ true → (a ≡ true) × (b ≡ true) × (c ≡ true) × (d ≡ true) × (e ≡ true)
-all5 true true true true e h = (refl, refl, refl, refl, h)
-all5 false b c d e h = absurd (true≢false (sym h))
-all5 true false c d e h = absurd (true≢false (sym h))
-all5 true true false d e h = absurd (true≢false (sym h))
-all5 true true true false e h = absurd (true≢false (sym h))
-
 -- a record that is not refused, and what is loaded from it
-not-refused : (s : Bool) (n j : ℕ) → n ≡ cond s j 2 → n ≡ 0 → j ≡ 0
-not-refused true n j e h = sym e ∙ h
-not-refused false n j e h = absurd (omega (arith, e, h))
-
-module _ (s : Bool) (l : List ℕ) (n : ℕ) (e : n ≡ cond s (loadCall l .answer .number) 2) (h : n ≡ 0) where
+module _ (l : List ℕ) (n : ℕ) (e : n ≡ loadCall l .answer .number) (h : n ≡ 0) where
   pub form-long : length l ≡ 16
-  form-long = loaded l (not-refused s n _ e h) .0
+  form-long = loaded l (sym e ∙ h) .0
 
   pub is-made : loadCall l ≡ made (unitOf l)
-  is-made = load-is l form-long (loaded l (not-refused s n _ e h) .1)
+  is-made = load-is l form-long (loaded l (sym e ∙ h) .1)
 
 unmade-by : (a b : Bool) (u : Ppu) (n : ℕ) → n ≡ cond a (cond b (made u) (unmade 3)) (unmade 2) .answer .number → (n ≡ 0 → ⊥) → cond a (cond b (made u) (unmade 3)) (unmade 2) ≡ unmade n
 unmade-by true true u n e h = absurd (h e)

@@ -14,7 +14,7 @@ use Rattle.model.specs.Ports.{stepped, wroteControl, wroteMask, wroteOam
 use Rattle.model.specs.Line.{oneLine, blankUnit, idleLine, vblankLine, preRenderLine, linesRun, meetsReason, lineCount, reasonMet}
 use Rattle.model.specs.Calls.{Call, onLent, call, refusalOf, order, done, readDone, writeDone, runDone, searchDone}
 use Rattle.model.specs.Reload.{end, endOf, totalOf, trace, dataCall, seven, joined, reload, allBelow, Quiet, Pair, Held}
-use Rattle.model.specs.Example.{filled, short, start, one, two, further, Example}
+use Rattle.model.specs.Example.{filled, board12, short, start, one, two, further, Example}
 use Rattle.model.proofs.Tests.{and-both}
 use Rattle.model.proofs.Needed.{places, bytes, lengths, held, quiet}
 use Rattle.model.proofs.Reloaded.{demand3}
@@ -44,7 +44,7 @@ quiet-log (c ∷ cs) s h =
 
 pair : Pair dataCall start one two
 unfolding start one two totalOf endOf call onLent refusalOf order done readDone writeDone runDone searchDone wrotePort wroteControl wroteMask wroteMemory wroteVideo wroteOamBytes readUnit readByte readStatus readData stepped statusByte dataByte bufferByte placeOf byteAt cellOf pageAt paletteCell isWellFormed isDrawing isRendering nmiLevel filled short oneLine blankUnit idleLine vblankLine linesRun meetsReason lineCount reasonMet
-pair = record { warm = refl; lengths = lengths 255 _; quiet-a = quiet-log one start refl; quiet-b = quiet-log two start refl; lines-run = refl }
+pair = record { warm = refl; lengths = lengths 255 board12; quiet-a = quiet-log one start refl; quiet-b = quiet-log two start refl; lines-run = refl }
 
 short-held : Held (state zeroUnit short)
 unfolding short allBelow isWellFormed recordOf
@@ -55,9 +55,9 @@ unfolding start one two further places bytes reload seven joined trace totalOf e
 example =
     record {
       pair = pair;
-      held = held 255 refl _ refl refl;
+      held = held 255 refl board12 _ refl refl;
       fit = (
-        ((tt, lit< tt), ((tt, lit< tt, lit< tt), ((tt, lit< tt, lit< tt), ((tt, lit< tt, lit< tt), ((tt, lit< tt, lit< tt), ((tt, lit< tt), ((tt, lit< tt, lit< tt), ((short-held, lit< tt, lit< tt), ((tt, refl), ((tt, lit< tt), ((tt, lit< tt), ((held 1 refl zeroUnit refl refl, lit< tt), ((tt, lit< tt, lit< tt), tt))))))))))))),
+        ((tt, lit< tt), ((tt, lit< tt, lit< tt), ((tt, lit< tt, lit< tt), ((tt, lit< tt, lit< tt), ((tt, lit< tt, lit< tt), ((tt, lit< tt), ((tt, lit< tt, lit< tt), ((short-held, lit< tt, lit< tt), ((tt, refl), ((tt, lit< tt), ((tt, lit< tt), ((held 1 refl board12 zeroUnit refl refl, lit< tt), ((tt, lit< tt, lit< tt), tt))))))))))))),
         ((tt, lit< tt, lit< tt), tt),
         ((tt, lit< tt, lit< tt), ((tt, lit< tt, lit< tt), ((tt, lit< tt), tt))),
       );

@@ -45,8 +45,8 @@ order-zero false a b c d e = absurd (omega arith)
 pub accepted : (c : Call) (s : State) → refusalOf c s ≡ 0 → Accepted c s
 unfolding refusalOf
 accepted c s e =
-    let p = order-zero (requestOk c) (longFor c (s .unit) (s .memory)) (isWellFormed (s .unit)) (inRange c) (isDrawing (s .unit) && blocked c) e in
-    record { asked = p .0; long = p .1; well = p .2; ranged = p .3; free = p .4 }
+    let p = order-zero (requestOk c) (isWellFormed (s .unit)) (longFor c (s .unit) (s .memory)) (inRange c) (isDrawing (s .unit) && blocked c) e in
+    record { asked = p .0; long = p .2; well = p .1; ranged = p .3; free = p .4 }
 
 -- what an accepted call comes to has it, and a refused one: every call has it
 pub by-gate : (P : Outcome → Type 0) (c : Call) (s : State) → (Accepted c s → P (done c s)) → ((k : ℕ) → P (outcome (refusal (suc k)) s)) → P (onLent c s)

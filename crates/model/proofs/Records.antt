@@ -12,7 +12,7 @@ use Rattle.model.specs.declared.Access.{Access}
 use Rattle.model.specs.Unit.{Memory, Lengths, State, state, recordLength, long, isWellFormed}
 use Rattle.model.specs.Record.{at, unitOf, recordOf}
 use Rattle.model.specs.Line.{linesRun}
-use Rattle.model.specs.Calls.{access, loadCall, Call, Outcome, outcome, outcomeOn, refusal, refusedAccess, longFor, requestOk, order, refusalOf, done, onLent, lentOf, lentMemory, ownMemory, call, packed, savedBytes, Exported, exported, exportOf, onRecord, exportedCall}
+use Rattle.model.specs.Calls.{access, loadCall, Call, Outcome, outcome, outcomeOn, refusal, refusedAccess, requestOk, order, refusalOf, done, onLent, lentOf, lentMemory, ownMemory, call, packed, savedBytes, Exported, exported, exportOf, onRecord, exportedCall}
 use Rattle.model.specs.Reload.{end, endOf, total, totalOf, Within, dataCall, QuietLog, Quiet, Places, Bytes, reload, Pair}
 use Rattle.model.specs.RecordLog.{RecordState, recordState, recordCall, recordTrace, recordSystem, RecordPair, RecordAlike}
 use Rattle.model.proofs.Record.{unit-record-unit, record-unit-record, record-long, load-save, loaded, unit-well}
@@ -26,19 +26,13 @@ unknown : (c : Call) (s : State) → requestOk c ≡ false → onLent c s ≡ ou
 unfolding onLent refusalOf order
 unknown c s e = rw e
 
-short : (c : Call) (s : State) → requestOk c ≡ true → longFor c (s .unit) (s .memory) ≡ false → onLent c s ≡ outcome (refusal 2) s
-unfolding onLent refusalOf order
-short c s k e = rw (k, e)
-
 pub on-record : (c : Call) (u : Ppu) (m : Memory) → isWellFormed u ≡ true → onRecord c (recordOf u) m ≡ onLent c (state u m)
 unfolding onRecord
-on-record c u m h = rw (load-save u h) (go (requestOk c) (longFor c u m) refl refl)
+on-record c u m h = rw (load-save u h) (go (requestOk c) refl)
   where
-    go : (k x : Bool) → requestOk c ≡ k → longFor c u m ≡ x
-        → cond k (cond x (onLent c (state u m)) (outcomeOn (refusedAccess 2 u) m)) (outcomeOn (refusedAccess 5 u) m) ≡ onLent c (state u m)
-    go true true f e = refl
-    go true false f e = sym (short c (state u m) f e)
-    go false x f e = sym (unknown c (state u m) f)
+    go : (k : Bool) → requestOk c ≡ k → cond k (onLent c (state u m)) (outcomeOn (refusedAccess 5 u) m) ≡ onLent c (state u m)
+    go true f = refl
+    go false f = sym (unknown c (state u m) f)
 
 -- the outcome of a call, with the unit saved
 abbrev pub saves : Outcome → Exported
@@ -153,10 +147,7 @@ unfolding onRecord
 bad-record c l m h =
     let x : Access = loadCall l in
     rw (ne-eqb (loadCall l .answer .number) 0 h)
-    (cond-both (Stays l m) (requestOk c) _ (outcomeOn (refusedAccess 5 (x .unit)) m)
-    (cond-both (Stays l m) (longFor c (x .unit) m) (outcomeOn x m) (outcomeOn (refusedAccess 2 (x .unit)) m)
-    (record { bytes = refused-bytes x l h; memory = refl })
-    (record { bytes = refused-bytes (refusedAccess 2 (x .unit)) l (λ (z : 2 ≡ 0). omega (arith, z)); memory = refl }))
+    (cond-both (Stays l m) (requestOk c) (outcomeOn x m) (outcomeOn (refusedAccess 5 (x .unit)) m) (record { bytes = refused-bytes x l h; memory = refl })
     (record { bytes = refused-bytes (refusedAccess 5 (x .unit)) l (λ (z : 5 ≡ 0). omega (arith, z)); memory = refl }))
 
 bad-end : (cs : List Call) (s : RecordState) → (loadCall (s .bytes) .answer .number ≡ 0 → ⊥) → endOf recordSystem cs s ≡ s

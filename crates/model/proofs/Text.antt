@@ -292,14 +292,14 @@ module _ (d : Board) (n : List ℕ) (h : length n ≡ nametableLength d) where
       let w : ℕ = wiringNumber (d .wiring) in
       let a : (8192 + 1024 * (q % 4) + k) / 1024 % 4 ≡ q % 4 = omega arith in
       let b : (8192 + 1024 * (q % 4) + k) % 1024 ≡ k = omega arith in
-      rw (eq-eqb (length n) 2048 h, getD-take 1024 (drop (pageAt w (q % 4) * 1024) n) k 0 lt, getD-drop (pageAt w (q % 4) * 1024) n k 0, a, b)
+      rw (eq-eqb (length n) (nametableLength d) h, getD-take 1024 (drop (pageAt w (q % 4) * 1024) n) k 0 lt, getD-drop (pageAt w (q % 4) * 1024) n k 0, a, b)
 
   quarter-length : (q : ℕ) → length (quarterPart d n q) ≡ nametablePage
   unfolding quarterPart quarterIn
   quarter-length q =
       let w : ℕ = wiringNumber (d .wiring) in
-      let l : pageAt w (q % 4) < 2 = page-small w (q % 4) (omega arith) in
-      rw (eq-eqb (length n) 2048 h) (length-take-le 1024 (drop (pageAt w (q % 4) * 1024) n) (rw (length-drop (pageAt w (q % 4) * 1024) n) (omega (arith, l, h))))
+      let l : pageAt w (q % 4) * 1024 + 1024 ≤ nametableLength d = page-small (d .wiring) (q % 4) (omega arith) in
+      rw (eq-eqb (length n) (nametableLength d) h) (length-take-le 1024 (drop (pageAt w (q % 4) * 1024) n) (rw (length-drop (pageAt w (q % 4) * 1024) n) (omega (arith, l, h))))
 
   module _ (t : List ℕ) where
     character-at : (q k v : ℕ) → q < 4 → k < rowsLength → 1024 * q + k ≡ v % 4096 → at (rowsOf t (quarterPart d n q)) k ≡ characterOf t (tileAt (d .wiring) n v)
@@ -314,7 +314,7 @@ quarter-pages d n q =
     record {
       quarter-byte = λ h. quarter-byte d n h q;
       quarter-length = λ h. quarter-length d n h q;
-      quarter-empty = λ h. rw (ne-eqb (length n) 2048 h);
+      quarter-empty = λ h. rw (ne-eqb (length n) (nametableLength d) h);
     }
 
 pub screens : (d : Board) (n t : List ℕ) → Shown d n t

@@ -10,11 +10,12 @@ use lib.Dec.{lit<, ltb, eqb}
 use lib.ListN.{length, getD, take, drop, take-append-drop}
 use lib.Seq.{drop-cons}
 use borrow.Author.Tests.{lt-ltb, ltb-true, eq-eqb, ne-eqb}
+use Rattle.model.specs.declared.Board.{Board}
 use Rattle.model.specs.declared.Ppu.{Ppu}
 use Rattle.model.specs.declared.Access.{Access}
 use Rattle.model.specs.declared.Answer.{Answer}
 use Rattle.model.specs.Unit.{Memory, dmaMemory, State, state, recordLength, isWellFormed, isDrawing}
-use Rattle.model.specs.Record.{at, unitOf, recordOf, bitByte}
+use Rattle.model.specs.Record.{at, unitOf, recordOf, recordOk, bitByte}
 use Rattle.model.specs.Ports.{portOf}
 use Rattle.model.specs.Calls.{access, refusedAccess, loadCall, made, Saved, saveCall, refusal, Call, Outcome, outcome, outcomeOn, longFor, requestOk, order, inRange, blocked, refusalOf, done, gate, onLent, lentOf, lentMemory, call, packed, exported, onRecord, exportedCall}
 use Rattle.model.specs.Reload.{end, endOf, total, totalOf, trace, Places, Bytes, seven, joined, reload, step, without, Within, allBelow, bytesOnly, Held, Needed, Alike}
@@ -23,7 +24,8 @@ use Rattle.model.specs.Log.{Record, whole, cut, recordsOf, recordKnown, 
 use Rattle.model.specs.Theorems.{AreBelow, AreBytes, Refusals, RoundTrips, Frames, Lending, Traces, DataCalls, HeldBytes, PackedParts, Arguments, ReloadTheorem, Mirrors, Steps, PlayedRecords, Theorems}
 use Rattle.model.proofs.Tests.{and-both}
 use Rattle.model.proofs.Accepted.{is-refused, is-unmade, and-none}
-use Rattle.model.proofs.Record.{unit-record-unit, load-save, save-is, save-load}
+use Rattle.model.proofs.Record.{unit-record-unit, load-save, load-is, save-is, save-load, board-codes}
+use Rattle.model.proofs.Address.{board-pages}
 use Rattle.model.proofs.Calls.{frame, exported-frame}
 use Rattle.model.proofs.Colours.{colours, coloured-lines, colour-bytes}
 use Rattle.model.proofs.Search.{searches, search-calls}
@@ -49,23 +51,23 @@ module _ (c : Call) (s : State) where
   unfolding refusalOf order
   is-5 k = rw k
 
-  is-2 : requestOk c ≡ true → longFor c (s .unit) (s .memory) ≡ false → refusalOf c s ≡ 2
+  is-3 : requestOk c ≡ true → isWellFormed (s .unit) ≡ false → refusalOf c s ≡ 3
   unfolding refusalOf order
-  is-2 k e = rw (k, e)
+  is-3 k e = rw (k, e)
 
-  is-3 : requestOk c ≡ true → longFor c (s .unit) (s .memory) ≡ true → isWellFormed (s .unit) ≡ false → refusalOf c s ≡ 3
+  is-2 : requestOk c ≡ true → isWellFormed (s .unit) ≡ true → longFor c (s .unit) (s .memory) ≡ false → refusalOf c s ≡ 2
   unfolding refusalOf order
-  is-3 k e f = rw (k, e, f)
+  is-2 k e f = rw (k, e, f)
 
-  is-1 : requestOk c ≡ true → longFor c (s .unit) (s .memory) ≡ true → isWellFormed (s .unit) ≡ true → inRange c ≡ false → refusalOf c s ≡ 1
+  is-1 : requestOk c ≡ true → isWellFormed (s .unit) ≡ true → longFor c (s .unit) (s .memory) ≡ true → inRange c ≡ false → refusalOf c s ≡ 1
   unfolding refusalOf order
   is-1 k e f g = rw (k, e, f, g)
 
-  is-4 : requestOk c ≡ true → longFor c (s .unit) (s .memory) ≡ true → isWellFormed (s .unit) ≡ true → inRange c ≡ true → isDrawing (s .unit) ≡ true → blocked c ≡ true → refusalOf c s ≡ 4
+  is-4 : requestOk c ≡ true → isWellFormed (s .unit) ≡ true → longFor c (s .unit) (s .memory) ≡ true → inRange c ≡ true → isDrawing (s .unit) ≡ true → blocked c ≡ true → refusalOf c s ≡ 4
   unfolding refusalOf order
   is-4 k e f g h i = rw (k, e, f, g, h, i)
 
-  is-0 : requestOk c ≡ true → longFor c (s .unit) (s .memory) ≡ true → isWellFormed (s .unit) ≡ true → inRange c ≡ true → (isDrawing (s .unit) ≡ false) ⊎ (blocked c ≡ false) → refusalOf c s ≡ 0
+  is-0 : requestOk c ≡ true → isWellFormed (s .unit) ≡ true → longFor c (s .unit) (s .memory) ≡ true → inRange c ≡ true → (isDrawing (s .unit) ≡ false) ⊎ (blocked c ≡ false) → refusalOf c s ≡ 0
   unfolding refusalOf order
   is-0 k e f g =
       ⊎-elim (λ (h : isDrawing (s .unit) ≡ false). rw (k, e, f, g, h)) (λ (h : blocked c ≡ false). rw (k, e, f, g, h, and-none (isDrawing (s .unit))))
@@ -79,20 +81,35 @@ module _ (c : Call) (l : List ℕ) (m : Memory) where
   abbrev x : Access
   x = loadCall l
 
-  abbrev loaded : Bool → Bool → Bool → Outcome
-  loaded k a b = cond k (cond a (cond b (onLent c (state (x .unit) m)) (outcomeOn x m)) (outcomeOn (refusedAccess 2 (x .unit)) m)) (outcomeOn (refusedAccess 5 (x .unit)) m)
+  abbrev loaded : Bool → Bool → Outcome
+  loaded k b = cond k (cond b (onLent c (state (x .unit) m)) (outcomeOn x m)) (outcomeOn (refusedAccess 5 (x .unit)) m)
 
-  by-load : (k a b : Bool) → (loaded k a b .answer .number ≡ 0 → ⊥) → Refused m (loaded k a b)
-  by-load true true true h =
+  by-load : (k b : Bool) → (loaded k b .answer .number ≡ 0 → ⊥) → Refused m (loaded k b)
+  by-load true true h =
       let f = sym (is-refused c (state (x .unit) m) (onLent c (state (x .unit) m) .answer .number) (number c (state (x .unit) m)) h) in
       record { answer = ap (λ (o : Outcome). o .answer) f; memory = ap (λ (o : Outcome). o .after .memory) f }
-  by-load true true false h = record { answer = ap (λ (y : Access). y .answer) (is-unmade l (x .answer .number) refl h); memory = refl }
-  by-load true false b h = record { answer = refl; memory = refl }
-  by-load false a b h = record { answer = refl; memory = refl }
+  by-load true false h = record { answer = ap (λ (y : Access). y .answer) (is-unmade l (x .answer .number) refl h); memory = refl }
+  by-load false b h = record { answer = refl; memory = refl }
 
   refused-record : (onRecord c l m .answer .number ≡ 0 → ⊥) → Refused m (onRecord c l m)
   unfolding onRecord
-  refused-record h = by-load (requestOk c) (longFor c (x .unit) m) (eqb (x .answer .number) 0) h
+  refused-record h = by-load (requestOk c) (eqb (x .answer .number) 0) h
+
+  record-5 : requestOk c ≡ false → onRecord c l m .answer .number ≡ 5
+  unfolding onRecord
+  record-5 h = rw h
+
+  record-2 : requestOk c ≡ true → (length l ≡ recordLength → ⊥) → onRecord c l m .answer .number ≡ 2
+  unfolding onRecord loadCall
+  record-2 h f = rw (h, ne-eqb (length l) recordLength f)
+
+  record-3 : requestOk c ≡ true → length l ≡ recordLength → recordOk l ≡ false → onRecord c l m .answer .number ≡ 3
+  unfolding onRecord loadCall
+  record-3 h e f = rw (h, eq-eqb (length l) recordLength e, f)
+
+  record-call : requestOk c ≡ true → length l ≡ recordLength → recordOk l ≡ true → onRecord c l m ≡ onLent c (state (unitOf l) m)
+  unfolding onRecord
+  record-call h e f = rw (h, load-is l e f)
 
 exported-refused : (c : Call) (l : List ℕ) (m : Memory) → (onRecord c l m .answer .number ≡ 0 → ⊥) → exportedCall c l m ≡ exported (onRecord c l m .answer .number) l m
 unfolding exportedCall
@@ -107,11 +124,15 @@ refusals =
     record {
       number = number;
       is-5 = is-5;
-      is-2 = is-2;
       is-3 = is-3;
+      is-2 = is-2;
       is-1 = is-1;
       is-4 = is-4;
       is-0 = is-0;
+      record-5 = record-5;
+      record-2 = record-2;
+      record-3 = record-3;
+      record-call = record-call;
       refused = λ c s h. sym (is-refused c s (onLent c s .answer .number) (number c s) h);
       exported-refused = exported-refused;
     }
@@ -252,19 +273,20 @@ never-4 : (c : Call) (s : State) → Within s → call c s .answer .number ≡ 4
 unfolding call refusalOf
 never-4 c s h e =
     let t : State = state (s .unit) (lentMemory (lentOf c) (s .memory)) in
-    never (requestOk c) (longFor c (t .unit) (t .memory)) (isWellFormed (t .unit)) (inRange c)
+    never (requestOk c) (isWellFormed (t .unit)) (longFor c (t .unit) (t .memory)) (inRange c)
     (rw (idle (s .unit) (h .0) (h .1)) at (sym (number c t) ∙ e))
 
 -- THE RELOAD, on records: what a unit shows, its record shows
-record-needed : (k : ℕ) → k < 7 → RecordNeeded k
-record-needed k l =
-    let n : Needed k = needed k l in
+record-needed : (d : Board) (k : ℕ) → k < 7 → RecordNeeded d k
+record-needed d k l =
+    let n : Needed d k = needed d k l in
     let h = n .held .formed in
     let side : (cs ds : List Call) → endOf recordSystem ds (endOf recordSystem cs (kept (n .start))) .bytes ≡ recordOf (end ds (end cs (n .start)) .unit) =
     λ cs ds. ap (λ (z : RecordState). z .bytes) (ends-kept cs ds (n .start) h)
     in
     record {
       start = kept (n .start);
+      board = ap (λ (u : Ppu). u .board) (unit-record-unit (n .start .unit)) ∙ n .board;
       log-a = n .log-a;
       log-b = n .log-b;
       pair = pair-kept (n .start) (n .log-a) (n .log-b) h (bytes-below _ (n .held .unit)) (n .pair);
@@ -286,9 +308,9 @@ reload-theorem =
       record-demand3 = record-demand3;
       needed = needed;
       record-needed = record-needed;
-      not-spared = λ k l f.
-          let n : Needed k = needed k l in
-          n .differ (f (n .start) (n .log-a) (n .log-b) (n .pair) (n .held) (n .fit-a) (n .fit-b) (n .at-a) (n .at-b) (n .bytes) (n .fit .0) (n .fit .1));
+      not-spared = λ d k l f.
+          let n : Needed d k = needed d k l in
+          n .differ (f (n .start) (n .log-a) (n .log-b) (n .board) (n .pair) (n .held) (n .fit-a) (n .fit-b) (n .at-a) (n .at-b) (n .bytes) (n .fit .0) (n .fit .1));
       alike = λ s t a i. state (a .units i) (a .memories i);
       record-alike = λ s t a i. recordState (a .records i) (a .memories i);
       never-4 = never-4;
@@ -379,6 +401,8 @@ theorems =
       search-calls = search-calls;
       runs = runs;
       run-calls = run-calls;
+      board-pages = board-pages;
+      board-codes = board-codes;
       quarter-pages = quarter-pages;
       rows = rows;
       pages = pages;

@@ -5,18 +5,18 @@ use mathlib.Core.List.{List, [], _∷_, map}
 use Prim.Native.Nat.{ℕ, _*_}
 use lib.ListN.{replicate}
 use Rattle.model.specs.declared.Board.{Board}
-use Rattle.model.specs.declared.Wiring.the-variants.{SecondPage}
-use Rattle.model.specs.Unit.{Memory, accessCells, State, state, unit}
+use Rattle.model.specs.declared.Wiring.the-variants.{FourPages}
+use Rattle.model.specs.Unit.{Memory, nametableLength, accessCells, State, state, unit}
 use Rattle.model.specs.Record.{recordOf}
 use Rattle.model.specs.Calls.{own, other, Call, readCall, writeCall, dmaCall, runCall, searchCall}
 use Rattle.model.specs.Reload.{end, total, trace, dataCall, Places, Bytes, reload, Pair, Alike, Held, AllFit}
 use Rattle.model.specs.RecordLog.{RecordState, recordState, recordSystem, RecordPair, RecordAlike}
 
--- all memory filled with a byte, the finished colours with two of it
-unfoldable pub filled : ℕ → Memory
-filled b =
+-- a board's memory, all filled with a byte, the finished colours with two of it
+unfoldable pub filled : Board → ℕ → Memory
+filled d b =
     record {
-      cells = accessCells (replicate 4096 b) (replicate 4096 b) (replicate 2048 b) (replicate 256 b) (replicate 32 b);
+      cells = accessCells (replicate 4096 b) (replicate 4096 b) (replicate (nametableLength d) b) (replicate 256 b) (replicate 32 b);
       line = replicate 256 b;
       colours = replicate 256 (b * 257);
     }
@@ -25,9 +25,12 @@ filled b =
 unfoldable pub short : Memory
 short = record { cells = accessCells [] [] [] [] []; line = []; colours = [] }
 
--- next line 240, warmed up, NMI off; all else as large as a unit can hold
+-- four pages and writable pattern memory; next line 240, warmed up, NMI off; all else as large as a unit can hold
+abbrev pub board12 : Board
+board12 = record { wiring = FourPages; writable = true }
+
 unfoldable pub start : State
-start = state (unit 127 255 224 255 32767 32767 7 true 255 255 240 true (record { wiring = SecondPage; writable = true })) (filled 255)
+start = state (unit 127 255 224 255 32767 32767 7 true 255 255 240 true board12) (filled board12 255)
 
 -- twenty lines, up to next line 260: a read, a write that turns NMI on, a line that waits for a hit, a run that stops after line 241, one refused with 5;
 -- a read and a data write refused with 1, a data write and sprite DMA with 2; a search, and one refused with 5; a read from other memory; a run with no
@@ -45,7 +48,7 @@ one =
     ∷ dmaCall own []
     ∷ searchCall own 239
     ∷ searchCall own 240
-    ∷ readCall (other (filled 1)) 16383
+    ∷ readCall (other (filled board12 1)) 16383
     ∷ runCall own 0 18
     ∷ []
 
@@ -70,6 +73,6 @@ pub record Example (a : Places) (b : Bytes) : Type 0 where
   pub differ : recordOf (end one start .unit) ≡ recordOf (end two start .unit) → ⊥
   pub equal : Alike (end (reload a b) (end one start)) (end (reload a b) (end two start))
   -- 4 is met only after it: from the units that it leaves
-  pub drawing : map (λ g. g .answer .number) (trace further (state (end (reload a b) (end one start) .unit) (filled 0))) ≡ 0 ∷ 0 ∷ 4 ∷ []
+  pub drawing : map (λ g. g .answer .number) (trace further (state (end (reload a b) (end one start) .unit) (filled board12 0))) ≡ 0 ∷ 0 ∷ 4 ∷ []
   -- the same on the 16-byte record
   pub record-pair : RecordPair (recordState (recordOf (start .unit)) (start .memory)) one two

@@ -2,6 +2,7 @@
 use mathlib.Core.Path.{_≡_}
 use mathlib.Core.List.{List, [], _∷_}
 use Prim.Native.Nat.{ℕ, _<_}
+use Rattle.model.specs.declared.Board.{Board}
 use Rattle.model.specs.Unit.{Memory, state}
 use Rattle.model.specs.Record.{at, unitOf}
 use Rattle.model.specs.Calls.{loadCall, Call, lentOf, lentMemory, ownMemory, onRecord, Exported, exportedCall}
@@ -49,8 +50,9 @@ pub record RecordPair (s : RecordState) (la lb : List Call) : Type 0 where
   pub pair : PairOf recordSystem dataCall s la lb
 
 -- step k of the reload cannot be spared, by exported calls: the same on a record that calls take
-pub record RecordNeeded (k : ℕ) : Type 0 where
+pub record RecordNeeded (d : Board) (k : ℕ) : Type 0 where
   pub start : RecordState
+  pub board : unitOf (start .bytes) .board ≡ d
   pub log-a : List Call
   pub log-b : List Call
   pub pair : RecordPair start log-a log-b

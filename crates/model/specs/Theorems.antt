@@ -8,15 +8,16 @@ use lib.Dec.{leb}
 use lib.ListN.{length}
 use Rattle.model.specs.declared.Board.{Board}
 use Rattle.model.specs.declared.Ppu.{Ppu}
+use Rattle.model.specs.declared.Wiring.the-variants.{Horizontal, Vertical, FirstPage, SecondPage, FourPages}
 use Rattle.model.specs.declared.Answer.{Answer}
-use Rattle.model.specs.Unit.{nametableLength, oamLength, lineLength, coloursLength, Cells, Memory, withCells, withLines, accessMemory, dmaMemory, State, state, zeroUnit, recordLength, bit, lastLine, isWellFormed, isRendering, isDrawing, nmiLevel}
-use Rattle.model.specs.Record.{at, recordOf, bitByte}
-use Rattle.model.specs.Address.{paletteCell, nametableByte, withOam, quarterPart}
+use Rattle.model.specs.Unit.{nametableLength, oamLength, lineLength, coloursLength, Cells, Memory, withCells, withLines, accessMemory, dmaMemory, State, state, fresh, zeroUnit, recordLength, bit, lastLine, isWellFormed, isRendering, isDrawing, nmiLevel}
+use Rattle.model.specs.Record.{at, unitOf, recordOf, recordOk, bitByte, boardByte, boardAt}
+use Rattle.model.specs.Address.{wiringNumber, pageAt, cellOf, paletteCell, nametableByte, withOam, quarterPart}
 use Rattle.model.specs.Ports.{portOf, dataByte}
 use Rattle.model.specs.Sprites.{covers, countOf, tried, overflows, lookedAt}
 use Rattle.model.specs.Colours.{shownCell, colourAt, numbersOf}
 use Rattle.model.specs.Line.{anyOf, hitOf, oneLine, linesRun, meetsReason, lineCount, reasonMet}
-use Rattle.model.specs.Calls.{made, loadCall, saved, saveCall, refusal, Lent, own, other, Call, readCall, writeCall, dmaCall, runCall, searchCall, Outcome, outcome, lineLong, longFor, requestOk, inRange, blocked, refusalOf, done, onLent, lentOf, given, call, packed, Exported, exported, onRecord, exportedCall}
+use Rattle.model.specs.Calls.{made, unmade, freshCall, loadCall, saved, saveCall, refusal, Lent, own, other, Call, readCall, writeCall, dmaCall, runCall, searchCall, Outcome, outcome, lineLong, longFor, requestOk, inRange, blocked, refusalOf, done, onLent, lentOf, given, call, packed, Exported, exported, onRecord, exportedCall}
 use Rattle.model.specs.Reload.{end, total, trace, dataCall, At, Places, Bytes, seven, joined, reload, step, without, Pair, Alike, Within, allBelow, bytesOnly, Held, LentFits, Fits, AllFit, Needed, endOf}
 use Rattle.model.specs.RecordLog.{RecordState, recordState, recordGiven, recordCall, recordTrace, recordSystem, RecordPair, RecordNeeded, RecordAlike}
 use Rattle.model.specs.Log.{recordKnown, recordCall as recordsCall, playCall, exportedPlay}
@@ -31,18 +32,22 @@ AreBelow n l = (k : ℕ) → at l k < n
 abbrev pub AreBytes : List ℕ → Type 0
 AreBytes l = AreBelow 256 l
 
--- DEMAND 1. The number of a call is the first of 5, 2, 3, 1, 4 that holds, and 0 if none does; a refused call changes nothing, and its packed
--- answer is its number
+-- DEMAND 1. The number of a call is the first of 5, 3, 2, 1, 4 that holds, and 0 if none does; on a record the first of 5, 2 for the record, 3, and then
+-- the call's own. A refused call changes nothing, and its packed answer is its number
 pub record Refusals : Type 0 where
   pub number : (c : Call) (s : State) → onLent c s .answer .number ≡ refusalOf c s
   pub is-5 : (c : Call) (s : State) → requestOk c ≡ false → refusalOf c s ≡ 5
-  pub is-2 : (c : Call) (s : State) → requestOk c ≡ true → longFor c (s .unit) (s .memory) ≡ false → refusalOf c s ≡ 2
-  pub is-3 : (c : Call) (s : State) → requestOk c ≡ true → longFor c (s .unit) (s .memory) ≡ true → isWellFormed (s .unit) ≡ false → refusalOf c s ≡ 3
-  pub is-1 : (c : Call) (s : State) → requestOk c ≡ true → longFor c (s .unit) (s .memory) ≡ true → isWellFormed (s .unit) ≡ true → inRange c ≡ false → refusalOf c s ≡ 1
-  pub is-4 : (c : Call) (s : State) → requestOk c ≡ true → longFor c (s .unit) (s .memory) ≡ true → isWellFormed (s .unit) ≡ true → inRange c ≡ true
+  pub is-3 : (c : Call) (s : State) → requestOk c ≡ true → isWellFormed (s .unit) ≡ false → refusalOf c s ≡ 3
+  pub is-2 : (c : Call) (s : State) → requestOk c ≡ true → isWellFormed (s .unit) ≡ true → longFor c (s .unit) (s .memory) ≡ false → refusalOf c s ≡ 2
+  pub is-1 : (c : Call) (s : State) → requestOk c ≡ true → isWellFormed (s .unit) ≡ true → longFor c (s .unit) (s .memory) ≡ true → inRange c ≡ false → refusalOf c s ≡ 1
+  pub is-4 : (c : Call) (s : State) → requestOk c ≡ true → isWellFormed (s .unit) ≡ true → longFor c (s .unit) (s .memory) ≡ true → inRange c ≡ true
       → isDrawing (s .unit) ≡ true → blocked c ≡ true → refusalOf c s ≡ 4
-  pub is-0 : (c : Call) (s : State) → requestOk c ≡ true → longFor c (s .unit) (s .memory) ≡ true → isWellFormed (s .unit) ≡ true → inRange c ≡ true
+  pub is-0 : (c : Call) (s : State) → requestOk c ≡ true → isWellFormed (s .unit) ≡ true → longFor c (s .unit) (s .memory) ≡ true → inRange c ≡ true
       → (isDrawing (s .unit) ≡ false) ⊎ (blocked c ≡ false) → refusalOf c s ≡ 0
+  pub record-5 : (c : Call) (l : List ℕ) (m : Memory) → requestOk c ≡ false → onRecord c l m .answer .number ≡ 5
+  pub record-2 : (c : Call) (l : List ℕ) (m : Memory) → requestOk c ≡ true → (length l ≡ recordLength → ⊥) → onRecord c l m .answer .number ≡ 2
+  pub record-3 : (c : Call) (l : List ℕ) (m : Memory) → requestOk c ≡ true → length l ≡ recordLength → recordOk l ≡ false → onRecord c l m .answer .number ≡ 3
+  pub record-call : (c : Call) (l : List ℕ) (m : Memory) → requestOk c ≡ true → length l ≡ recordLength → recordOk l ≡ true → onRecord c l m ≡ onLent c (state (unitOf l) m)
   pub refused : (c : Call) (s : State) → (onLent c s .answer .number ≡ 0 → ⊥) → onLent c s ≡ outcome (refusal (onLent c s .answer .number)) s
   pub exported-refused : (c : Call) (l : List ℕ) (m : Memory) → (onRecord c l m .answer .number ≡ 0 → ⊥) → exportedCall c l m ≡ exported (onRecord c l m .answer .number) l m
 
@@ -141,21 +146,21 @@ pub record Arguments : Type 0 where
   pub fits-lent : (m : Memory) → LentFits (other m) → Held (state zeroUnit m)
   pub fits-all : (c : Call) (cs : List Call) → AllFit (c ∷ cs) → Fits c × AllFit cs
 
--- step k can be spared: from units, memories and logs that bytes can hold the reload without it makes the units equal
-abbrev pub Spared : ℕ → Type 0
-Spared k =
-    (s : State) (la lb : List Call) → Pair dataCall s la lb → Held s → AllFit la → AllFit lb → (pa pb : Places) (b : Bytes) → AllFit (joined (seven pa b)) → AllFit (joined (seven pb b))
+-- step k can be spared with board d: from units, memories and logs that bytes can hold the reload without it makes the units equal
+abbrev pub Spared : Board → ℕ → Type 0
+Spared d k =
+    (s : State) (la lb : List Call) → s .unit .board ≡ d → Pair dataCall s la lb → Held s → AllFit la → AllFit lb → (pa pb : Places) (b : Bytes) → AllFit (joined (seven pa b)) → AllFit (joined (seven pb b))
     → recordOf (end (without k pa b) (end la s) .unit) ≡ recordOf (end (without k pb b) (end lb s) .unit)
 
--- DEMAND 3. After the reload units and memories are equal, and all that follows; and none of its seven steps can be spared. The same of the
--- exported calls, on records
+-- DEMAND 3. After the reload units and memories are equal, and all that follows; and none of its seven steps can be spared, with any board.
+-- The same of the exported calls, on records
 pub record ReloadTheorem : Type 0 where
   pub demand3 : (s : State) (la lb : List Call) → Pair dataCall s la lb → (pa pb : Places) (b : Bytes) → Alike (end (reload pa b) (end la s)) (end (reload pb b) (end lb s))
   pub record-demand3 : (s : RecordState) (la lb : List Call) → RecordPair s la lb → (pa pb : Places) (b : Bytes)
       → RecordAlike (endOf recordSystem (reload pa b) (endOf recordSystem la s)) (endOf recordSystem (reload pb b) (endOf recordSystem lb s))
-  pub needed : (k : ℕ) → k < 7 → Needed k
-  pub record-needed : (k : ℕ) → k < 7 → RecordNeeded k
-  pub not-spared : (k : ℕ) → k < 7 → Spared k → ⊥
+  pub needed : (d : Board) (k : ℕ) → k < 7 → Needed d k
+  pub record-needed : (d : Board) (k : ℕ) → k < 7 → RecordNeeded d k
+  pub not-spared : (d : Board) (k : ℕ) → k < 7 → Spared d k → ⊥
   pub alike : (s t : State) → Alike s t → s ≡ t
   pub record-alike : (s t : RecordState) → RecordAlike s t → s ≡ t
   -- within lines 240 to 260 nothing is drawn, so that no call of such a log is refused with 4
@@ -290,6 +295,24 @@ pub record RunCalls (s : State) : Type 0 where
       ≡ (bit 64 (s .unit .status) || anyOf (hitOf (s .unit) (s .memory .cells .left) (s .memory .cells .right) (s .memory .cells .nametables) (s .memory .cells .oam)) lineLength)
   pub line-no-hit : 240 ≤ s .unit .scanline → bit 64 (s .unit .status) ≡ false → bit 64 (oneLine s .unit .status) ≡ false
 
+-- DOCUMENT 02, REQUEST 5. Nametable RAM by the board, and every page and cell of it in that; with four pages each address of $2000-$2FFF has a cell of
+-- its own
+pub record BoardPages (d : Board) : Type 0 where
+  pub four-length : d .wiring ≡ FourPages → nametableLength d ≡ 4096
+  pub other-length : (d .wiring ≡ FourPages → ⊥) → nametableLength d ≡ 2048
+  pub page-in : (q : ℕ) → q < 4 → pageAt (wiringNumber (d .wiring)) q * 1024 + 1024 ≤ nametableLength d
+  pub cell-in : (a : ℕ) → cellOf (d .wiring) a < nametableLength d
+  pub four-cells : d .wiring ≡ FourPages → (k : ℕ) → k < 4096 → cellOf (d .wiring) (8192 + k) ≡ k
+
+-- board codes: five wirings, with and without 8 for writable pattern memory, and no others; 4 and 12 have four pages; every board has its code
+pub record BoardCodes : Type 0 where
+  pub taken : (n : ℕ) → n < 16 → n % 8 < 5 → freshCall n ≡ made (fresh (boardAt n))
+  pub refused : (n : ℕ) → (n < 16 → n % 8 < 5 → ⊥) → freshCall n ≡ unmade 3
+  pub wirings : map (λ n. boardAt n .wiring) (0 ∷ 1 ∷ 2 ∷ 3 ∷ 4 ∷ 8 ∷ 9 ∷ 10 ∷ 11 ∷ 12 ∷ [])
+      ≡ Horizontal ∷ Vertical ∷ FirstPage ∷ SecondPage ∷ FourPages ∷ Horizontal ∷ Vertical ∷ FirstPage ∷ SecondPage ∷ FourPages ∷ []
+  pub code-back : (d : Board) → boardAt (boardByte d) ≡ d
+  pub code-ok : (d : Board) → (boardByte d < 16) × (boardByte d % 8 < 5)
+
 -- DOCUMENT 02, REQUEST 10. The page of a quarter: byte k of it is the one that answers at $2000 + 1024 q + k, with q modulo 4
 pub record QuarterPages (d : Board) (n : List ℕ) (q : ℕ) : Type 0 where
   pub quarter-byte : length n ≡ nametableLength d → (k : ℕ) → k < nametablePage → at (quarterPart d n q) k ≡ nametableByte (d .wiring) n (8192 + 1024 * (q % 4) + k)
@@ -359,6 +382,8 @@ pub record Theorems : Type 0 where
   pub search-calls : (s : State) → SearchCalls s
   pub runs : (s : State) (n : ℕ) → Runs s n
   pub run-calls : (s : State) → RunCalls s
+  pub board-pages : (d : Board) → BoardPages d
+  pub board-codes : BoardCodes
   pub quarter-pages : (d : Board) (n : List ℕ) (q : ℕ) → QuarterPages d n q
   pub rows : (p t r : List ℕ) → Rows p t r
   pub pages : (r t p : List ℕ) → Pages r t p

@@ -1,7 +1,7 @@
 -- The ways of each function, for `search`.
 use Prim.Native.Nat.{ℕ, _+_, _*_, _%_, _<_, _≤_}
-use mathlib.Core.Path.{_≡_, ap, _∙_}
-use mathlib.Core.Bool.{Bool, true, false, cond, _&&_}
+use mathlib.Core.Path.{_≡_, sym, ap, _∙_}
+use mathlib.Core.Bool.{Bool, true, false, _&&_}
 use mathlib.Core.List.{List}
 use native.Mathlib.Omega.{arith}
 use lib.Dec.{eqb, ltb}
@@ -11,15 +11,15 @@ use Rattle.model.specs.declared.Board.{Board}
 use Rattle.model.specs.declared.Ppu.{Ppu}
 use Rattle.model.specs.declared.Answer.{Answer}
 use Rattle.model.specs.declared.Access.{Access}
-use Rattle.model.specs.Unit.{fresh, zeroUnit, isWellFormed, isDrawing}
+use Rattle.model.specs.Unit.{nametableLength, fresh, zeroUnit, isWellFormed, isDrawing}
 use Rattle.model.specs.Record.{unitOf, recordOf, bytesOk, recordOk}
 use Rattle.model.specs.Calls.{refusedAccess, unmade, loadCall, packed, savedBytes, accessSizes, dmaSizes, addressOk, blockedRead, order, accessRefusal, plainRefusal}
 
-pub unmade-1 : (n : ℕ) (d : Board) (u : Ppu) (r : Access) → d ≡ zeroUnit .board → u ≡ fresh d → r ≡ refusedAccess n u → r ≡ unmade n
-unmade-1 n d u r e f g = g ∙ ap (refusedAccess n) (f ∙ ap fresh e)
+pub unmade-1 : (n : ℕ) (u : Ppu) (r : Access) → u ≡ zeroUnit → r ≡ refusedAccess n u → r ≡ unmade n
+unmade-1 n u r f g = g ∙ ap (refusedAccess n) f
 
--- lengths
-module _ (d : Board) (l r n o p : ℕ) where
+-- lengths; k is the board's nametable RAM
+module _ (d : Board) (l r n o p k : ℕ) (ek : k ≡ nametableLength d) where
   abbrev fit : Bool
   fit = accessSizes d l r n o p
 
@@ -29,14 +29,14 @@ module _ (d : Board) (l r n o p : ℕ) where
   pub sizes-2 : l ≡ 4096 → (r ≡ 4096 → ⊥) → false ≡ fit
   sizes-2 a b = simp (eq-eqb _ _ a, ne-eqb _ _ b)
 
-  pub sizes-3 : l ≡ 4096 → r ≡ 4096 → (n ≡ 2048 → ⊥) → false ≡ fit
-  sizes-3 a b c = simp (eq-eqb _ _ a, eq-eqb _ _ b, ne-eqb _ _ c)
+  pub sizes-3 : l ≡ 4096 → r ≡ 4096 → (n ≡ k → ⊥) → false ≡ fit
+  sizes-3 a b c = simp (eq-eqb _ _ a, eq-eqb _ _ b, ne-eqb n (nametableLength d) (λ z. c (z ∙ sym ek)))
 
-  pub sizes-4 : l ≡ 4096 → r ≡ 4096 → n ≡ 2048 → (o ≡ 256 → ⊥) → false ≡ fit
-  sizes-4 a b c e = simp (eq-eqb _ _ a, eq-eqb _ _ b, eq-eqb _ _ c, ne-eqb _ _ e)
+  pub sizes-4 : l ≡ 4096 → r ≡ 4096 → n ≡ k → (o ≡ 256 → ⊥) → false ≡ fit
+  sizes-4 a b c e = simp (eq-eqb _ _ a, eq-eqb _ _ b, eq-eqb n (nametableLength d) (c ∙ ek), ne-eqb _ _ e)
 
-  pub sizes-5 : l ≡ 4096 → r ≡ 4096 → n ≡ 2048 → o ≡ 256 → eqb p 32 ≡ fit
-  sizes-5 a b c e = simp (eq-eqb _ _ a, eq-eqb _ _ b, eq-eqb _ _ c, eq-eqb _ _ e)
+  pub sizes-5 : l ≡ 4096 → r ≡ 4096 → n ≡ k → o ≡ 256 → eqb p 32 ≡ fit
+  sizes-5 a b c e = simp (eq-eqb _ _ a, eq-eqb _ _ b, eq-eqb n (nametableLength d) (c ∙ ek), eq-eqb _ _ e)
 
 pub ruleset sizes-cases = (sizes-1, sizes-2, sizes-3, sizes-4, sizes-5)
 
@@ -64,29 +64,26 @@ module _ (o p : ℕ) where
 
 pub ruleset dma-sizes-cases = (dma-sizes-1, dma-sizes-2)
 
--- the number of a record's refusal; s: what is lent beside it has the right lengths
-module _ (s : Bool) (l : List ℕ) where
-  pub form-0 : s ≡ false → 2 ≡ cond s (loadCall l .answer .number) 2
-  form-0 z = rw z
-
-  pub form-1 : s ≡ true → (length l ≡ 16 → ⊥) → 2 ≡ cond s (loadCall l .answer .number) 2
+-- the number of a record's refusal
+module _ (l : List ℕ) where
+  pub form-1 : (length l ≡ 16 → ⊥) → 2 ≡ loadCall l .answer .number
   unfolding loadCall
-  form-1 z p = rw (z, ne-eqb (length l) 16 p)
+  form-1 p = rw (ne-eqb (length l) 16 p)
 
-  module _ (k : Bool) (z : s ≡ true) (n : length l ≡ 16) (e : k ≡ bytesOk l) where
-    pub form-2 : (w : Bool) (u : Ppu) → k ≡ true → u ≡ unitOf l → w ≡ isWellFormed u → w ≡ true → 0 ≡ cond s (loadCall l .answer .number) 2
+  module _ (k : Bool) (n : length l ≡ 16) (e : k ≡ bytesOk l) where
+    pub form-2 : (w : Bool) (u : Ppu) → k ≡ true → u ≡ unitOf l → w ≡ isWellFormed u → w ≡ true → 0 ≡ loadCall l .answer .number
     unfolding loadCall recordOk
-    form-2 w u p f g q = rw (z, eq-eqb (length l) 16 n, ← e, p, ← f, ← g, q)
+    form-2 w u p f g q = rw (eq-eqb (length l) 16 n, ← e, p, ← f, ← g, q)
 
-    pub form-3 : (w : Bool) (u : Ppu) → k ≡ true → u ≡ unitOf l → w ≡ isWellFormed u → w ≡ false → 3 ≡ cond s (loadCall l .answer .number) 2
+    pub form-3 : (w : Bool) (u : Ppu) → k ≡ true → u ≡ unitOf l → w ≡ isWellFormed u → w ≡ false → 3 ≡ loadCall l .answer .number
     unfolding loadCall recordOk
-    form-3 w u p f g q = rw (z, eq-eqb (length l) 16 n, ← e, p, ← f, ← g, q)
+    form-3 w u p f g q = rw (eq-eqb (length l) 16 n, ← e, p, ← f, ← g, q)
 
-    pub form-4 : k ≡ false → 3 ≡ cond s (loadCall l .answer .number) 2
+    pub form-4 : k ≡ false → 3 ≡ loadCall l .answer .number
     unfolding loadCall recordOk
-    form-4 p = rw (z, eq-eqb (length l) 16 n, ← e, p)
+    form-4 p = rw (eq-eqb (length l) 16 n, ← e, p)
 
-pub ruleset form-cases = (form-0, form-1, form-2, form-3, form-4)
+pub ruleset form-cases = (form-1, form-2, form-3, form-4)
 
 -- an access's refusal
 module _ (a : ℕ) where
@@ -98,48 +95,47 @@ module _ (a : ℕ) where
 
 pub ruleset range-cases = (range-1, range-2)
 
-module _ (s : Bool) (u : Ppu) (a : ℕ) (k : Bool) where
-  module _ (w : Bool) (x : s ≡ true) (e : w ≡ isWellFormed u) where
-    pub refusal-1 : w ≡ false → 3 ≡ accessRefusal s u a k
-    unfolding accessRefusal order
-    refusal-1 y = rw (x, ← e, y)
-
-    module _ (g : Bool) (y : w ≡ true) (f : g ≡ addressOk a) where
-      pub refusal-2 : g ≡ false → 1 ≡ accessRefusal s u a k
-      unfolding accessRefusal order
-      refusal-2 z = rw (x, ← e, y, ← f, z)
-
-      module _ (d : Bool) (z : g ≡ true) (h : d ≡ isDrawing u) where
-        pub refusal-3 : d ≡ true → k ≡ true → 4 ≡ accessRefusal s u a k
-        unfolding accessRefusal order
-        refusal-3 p q = rw (x, ← e, y, ← f, z, ← h, p, q)
-
-        pub refusal-4 : d ≡ true → k ≡ false → 0 ≡ accessRefusal s u a k
-        unfolding accessRefusal order
-        refusal-4 p q = rw (x, ← e, y, ← f, z, ← h, p, q)
-
-        pub refusal-5 : d ≡ false → 0 ≡ accessRefusal s u a k
-        unfolding accessRefusal order
-        refusal-5 p = rw (x, ← e, y, ← f, z, ← h, p)
-
-  pub refusal-6 : s ≡ false → 2 ≡ accessRefusal s u a k
+module _ (s : Bool) (u : Ppu) (a : ℕ) (k w : Bool) (e : w ≡ isWellFormed u) where
+  pub refusal-1 : w ≡ false → 3 ≡ accessRefusal s u a k
   unfolding accessRefusal order
-  refusal-6 x = rw x
+  refusal-1 y = rw (← e, y)
+
+  pub refusal-2 : w ≡ true → s ≡ false → 2 ≡ accessRefusal s u a k
+  unfolding accessRefusal order
+  refusal-2 y x = rw (← e, y, x)
+
+  module _ (g : Bool) (y : w ≡ true) (x : s ≡ true) (f : g ≡ addressOk a) where
+    pub refusal-3 : g ≡ false → 1 ≡ accessRefusal s u a k
+    unfolding accessRefusal order
+    refusal-3 z = rw (x, ← e, y, ← f, z)
+
+    module _ (d : Bool) (z : g ≡ true) (h : d ≡ isDrawing u) where
+      pub refusal-4 : d ≡ true → k ≡ true → 4 ≡ accessRefusal s u a k
+      unfolding accessRefusal order
+      refusal-4 p q = rw (x, ← e, y, ← f, z, ← h, p, q)
+
+      pub refusal-5 : d ≡ true → k ≡ false → 0 ≡ accessRefusal s u a k
+      unfolding accessRefusal order
+      refusal-5 p q = rw (x, ← e, y, ← f, z, ← h, p, q)
+
+      pub refusal-6 : d ≡ false → 0 ≡ accessRefusal s u a k
+      unfolding accessRefusal order
+      refusal-6 p = rw (x, ← e, y, ← f, z, ← h, p)
 
 pub ruleset refusal-cases = (refusal-1, refusal-2, refusal-3, refusal-4, refusal-5, refusal-6)
 
-module _ (s : Bool) (u : Ppu) where
-  pub plain-1 : (w : Bool) → s ≡ true → w ≡ isWellFormed u → w ≡ true → 0 ≡ plainRefusal s u
+module _ (s : Bool) (u : Ppu) (w : Bool) (e : w ≡ isWellFormed u) where
+  pub plain-1 : w ≡ false → 3 ≡ plainRefusal s u
   unfolding plainRefusal order
-  plain-1 w x e y = simp (x, ← e, y)
+  plain-1 y = simp (← e, y)
 
-  pub plain-2 : (w : Bool) → s ≡ true → w ≡ isWellFormed u → w ≡ false → 3 ≡ plainRefusal s u
+  pub plain-2 : w ≡ true → s ≡ false → 2 ≡ plainRefusal s u
   unfolding plainRefusal order
-  plain-2 w x e y = simp (x, ← e, y)
+  plain-2 y x = simp (x, ← e, y)
 
-  pub plain-3 : s ≡ false → 2 ≡ plainRefusal s u
+  pub plain-3 : w ≡ true → s ≡ true → 0 ≡ plainRefusal s u
   unfolding plainRefusal order
-  plain-3 x = simp x
+  plain-3 y x = simp (x, ← e, y)
 
 pub ruleset plain-cases = (plain-1, plain-2, plain-3)
 

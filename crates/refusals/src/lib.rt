@@ -1,11 +1,11 @@
 // What the public calls share: the numbers of their refusals, and what an exported call leaves of its answer. Inner functions.
-// zero_board, unmade; lengths: access_sizes, dma_sizes, line_sizes; refusals: record_refusal, access_refusal, plain_refusal, blocked_read;
+// unmade; lengths: access_sizes, dma_sizes, line_sizes; refusals: record_refusal, access_refusal, plain_refusal, blocked_read;
 // the record and the packed answer: flag, pack, finish.
 ghost use mathlib.Core.Path.{_≡_};
-ghost use mathlib.Core.Bool.{cond, _&&_};
+ghost use mathlib.Core.Bool.{_&&_};
 ghost use Prim.Native.Nat.{_*_, _<_};
 ghost use lib.Dec.{eqb};
-ghost use Rattle.model.specs.Unit.{zeroUnit, lineLength, coloursLength};
+ghost use Rattle.model.specs.Unit.{lineLength, coloursLength};
 ghost use Rattle.model.specs.Record.{bitByte};
 ghost use Rattle.model.specs.Calls.{
   unmade as unmadeOf,
@@ -25,26 +25,18 @@ use model::Board;
 use model::Ppu;
 use model::Wiring;
 
-// The board of the all-zero unit.
-pub fn zero_board() -> Board
-    ensures { λ r. ⌜ r ≡ zeroUnit .board ⌝ }
-{
-    Board {
-        wiring: Wiring::Horizontal,
-        writable: false,
-    }
-}
-
 // A refused making hands back the all-zero unit.
 pub fn unmade(number: u8) -> Access
     ensures { λ r. ⌜ r ≡ unmadeOf number ⌝ }
 {
-    let board = zero_board();
-    let u = record::fresh(board);
+    let u = record::fresh(Board {
+        wiring: Wiring::Horizontal,
+        writable: false,
+    });
     unit::refused(number, u)
 }
 
-// The lengths of what an access is lent.
+// The lengths of what an access is lent, nametable RAM's by the board.
 pub fn access_sizes(
     board: Board,
     left: usize,
@@ -55,13 +47,14 @@ pub fn access_sizes(
 ) -> bool
     ensures { λ r. ⌜ r ≡ accessSizes board left right nametables oam palette ⌝ }
 {
+    let wanted = address::nametable_length(board);
     if left != 4096 {
         return false;
     }
     if right != 4096 {
         return false;
     }
-    if nametables != 2048 {
+    if nametables != wanted {
         return false;
     }
     if oam != 256 {
@@ -102,24 +95,21 @@ pub fn line_sizes(
     false
 }
 
-// The number of the refusal of a record, 0 where there is none. `sized`: what is lent beside it has the right lengths.
-pub fn record_refusal(sized: bool, saved: &[u8]) -> u8
-    ensures { λ r. ⌜ r ≡ cond sized (loadCall (now (saved .entry)) .answer .number) 2 ⌝ }
+// The number of the refusal of a record, 0 where there is none.
+pub fn record_refusal(saved: &[u8]) -> u8
+    ensures { λ r. ⌜ r ≡ loadCall (now (saved .entry)) .answer .number ⌝ }
 {
-    if sized {
-        if saved.len() != 16 {
-            return 2;
-        }
-        if record::bytes_ok(saved) {
-            let u = record::read_unit(saved);
-            if unit::well_formed(u) {
-                return 0;
-            }
-            return 3;
+    if saved.len() != 16 {
+        return 2;
+    }
+    if record::bytes_ok(saved) {
+        let u = record::read_unit(saved);
+        if unit::well_formed(u) {
+            return 0;
         }
         return 3;
     }
-    2
+    3
 }
 
 // An address within $2000-$3FFF.
@@ -136,9 +126,9 @@ fn in_range(address: u16) -> bool
 pub fn access_refusal(sized: bool, u: Ppu, address: u16, blocked: bool) -> u8
     ensures { λ r. ⌜ r ≡ accessRefusal sized u address blocked ⌝ }
 {
-    if sized {
-        let formed = unit::well_formed(u);
-        if formed {
+    let formed = unit::well_formed(u);
+    if formed {
+        if sized {
             if in_range(address) {
                 if unit::drawing(u) {
                     if blocked {
@@ -150,22 +140,22 @@ pub fn access_refusal(sized: bool, u: Ppu, address: u16, blocked: bool) -> u8
             }
             return 1; // the address
         }
-        return 3; // the unit
+        return 2; // a length
     }
-    2
+    3 // the unit
 }
 
 // The number of the refusal of a call that takes no address.
 pub fn plain_refusal(sized: bool, u: Ppu) -> u8
     ensures { λ r. ⌜ r ≡ plainRefusal sized u ⌝ }
 {
-    if sized {
-        if unit::well_formed(u) {
+    if unit::well_formed(u) {
+        if sized {
             return 0;
         }
-        return 3;
+        return 2;
     }
-    2
+    3
 }
 
 // A read of this address's port is refused while drawing: port 4 or 7.

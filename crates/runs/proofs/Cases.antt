@@ -1,7 +1,7 @@
 -- The ways of each call, for `search`.
 use Prim.Native.Nat.{ℕ, _<_, _≤_}
 use mathlib.Core.Path.{_≡_, refl, sym, ap, _∙_}
-use mathlib.Core.Bool.{Bool, true, false, _&&_}
+use mathlib.Core.Bool.{Bool, true, false, true≢false, _&&_}
 use mathlib.Core.List.{List}
 use lib.Dec.{ltb, eqb}
 use lib.ListN.{length}
@@ -10,11 +10,11 @@ use borrow.Author.Tests.{eqb-true, ne-eqb, lt-ltb, le-ltb}
 use Rattle.model.specs.declared.Ppu.{Ppu}
 use Rattle.model.specs.declared.Access.{Access}
 use Rattle.model.specs.Colours.{numbersOf}
-use Rattle.model.specs.Unit.{State, state, lineMemory, bit, isRendering, isWellFormed, isDrawing}
+use Rattle.model.specs.Unit.{State, state, lineMemory, nametableLength, bit, isRendering, isWellFormed, isDrawing}
 use Rattle.model.specs.Line.{oneLine, linesRun}
 use Rattle.model.specs.Calls.{access, ranAnswer, refusedAccess, own, Call, runCall, Outcome, outcome, outcomeOn, lineOutcome, accessSizes, lineSizes, order, plainRefusal, refusalOf, runDone, done, onLent}
-use Rattle.model.proofs.Accepted.{is-unasked, is-refused, is-done, order-0, order-formed, and-none, all5}
-use Rattle.model.proofs.Tests.{and-both}
+use Rattle.model.proofs.Accepted.{is-unasked, is-refused, is-done, order-formed, order-sized, and-none}
+use Rattle.model.proofs.Tests.{and-both, all5}
 use Rattle.model.proofs.Colours.{sized-bytes}
 use Rattle.model.proofs.Runs.{run-one, meets-undrawn}
 use Rattle.scanline.specs.Shown.{RunLengths, IsRun}
@@ -40,7 +40,7 @@ module _ (u : Ppu) (l r n o p b f : List ℕ) (s : Bool) (k : ℕ) (hs : s ≡ l
 
   same-run : k ≡ refusalOf (runCall own why most) at
   unfolding refusalOf plainRefusal
-  same-run = hk ∙ rw (hs, lt-ltb why 3 (omega arith)) (ap (order true _ (isWellFormed u) true) (sym (and-none (isDrawing u))))
+  same-run = hk ∙ rw (hs, lt-ltb why 3 (omega arith)) (ap (order true (isWellFormed u) _ true) (sym (and-none (isDrawing u))))
 
   refused-run : (x : Access) → (k ≡ 0 → ⊥) → x ≡ refusedAccess k u → lineOutcome x l r n o p b f ≡ onLent (runCall own why most) at
   refused-run x h e = ap (λ (y : Access). lineOutcome y l r n o p b f) e ∙ is-refused (runCall own why most) at k same-run h
@@ -58,14 +58,14 @@ module _ (u : Ppu) (l r n o p b c : List ℕ) (s : Bool) (k : ℕ)
   pub line-long : k ≡ 0 → RunLengths (u .board) l r n o p b c
   unfolding plainRefusal
   line-long h =
-      let y = and-both (accessSizes (u .board) (length l) (length r) (length n) (length o) (length p)) _ (sym hs ∙ order-0 _ _ _ _ _ (sym hk ∙ h)) in
-      let z = all5 (eqb (length l) 4096) (eqb (length r) 4096) (eqb (length n) 2048) (eqb (length o) 256) (eqb (length p) 32) (y .0) in
+      let y = and-both (accessSizes (u .board) (length l) (length r) (length n) (length o) (length p)) _ (sym hs ∙ order-sized _ _ _ _ _ (sym hk ∙ h)) in
+      let z = all5 (eqb (length l) 4096) (eqb (length r) 4096) (eqb (length n) (nametableLength (u .board))) (eqb (length o) 256) (eqb (length p) 32) (y .0) in
       let w = and-both (eqb (length b) 256) (eqb (length (numbersOf c)) 256) (y .1) in
       record {
         drawn = record {
           left = eqb-true (length l) 4096 (z .0);
           right = eqb-true (length r) 4096 (z .1);
-          nametables = eqb-true (length n) 2048 (z .2);
+          nametables = eqb-true (length n) (nametableLength (u .board)) (z .2);
           oam = eqb-true (length o) 256 (z .3);
           line = eqb-true (length b) 256 (w .0);
         };
@@ -90,13 +90,13 @@ last-not false c = refl
 
 pub run-short : (u : Ppu) (l r n o p b f : List ℕ) (k : ℕ) (why most : ℕ) (x : Access) → k ≡ plainRefusal false u → why ≤ 2 → (length f ≡ 256 → ⊥) → x ≡ refusedAccess k u
     → lineOutcome x l r n o p b f ≡ onLent (runCall own why most) (state u (lineMemory l r n o p b f))
-run-short u l r n o p b f k why most x hk g h ex = refused-run u l r n o p b f false k short hk why most g x is-2 ex
+run-short u l r n o p b f k why most x hk g h ex = refused-run u l r n o p b f false k short hk why most g x not-0 ex
   where
     short : false ≡ lineSizes (u .board) (length l) (length r) (length n) (length o) (length p) (length b) (length f)
     short = rw (ne-eqb (length f) 256 h) (last-not (accessSizes (u .board) (length l) (length r) (length n) (length o) (length p)) (eqb (length b) 256))
 
-    is-2 : k ≡ 0 → ⊥
-    is-2 z = let e : k ≡ 2 = hk ∙ (unfold plainRefusal order in refl) in omega (arith, e, z)
+    not-0 : k ≡ 0 → ⊥
+    not-0 z = true≢false (sym (order-sized _ _ _ _ _ (unfold plainRefusal in sym hk ∙ z)))
 
 pub numbers-done : (c : Call) (u : Ppu) (a : Access) (l r n o p b b′ f f′ g g′ : List ℕ) → numbersOf g ≡ f → f′ ≡ numbersOf g′
     → lineOutcome a l r n o p b′ (numbersOf g′) ≡ onLent c (state u (lineMemory l r n o p b (numbersOf g))) → lineOutcome a l r n o p b′ f′ ≡ onLent c (state u (lineMemory l r n o p b f))

@@ -1,4 +1,4 @@
-// The public call on a unit by value that runs lines: run. It has no `requires`: it refuses what it cannot take, 5 then 2 then 3, and a refused call
+// The public call on a unit by value that runs lines: run. It has no `requires`: it refuses what it cannot take, 5 then 3 then 2, and a refused call
 // leaves the unit and every lent memory as they were. Within, for a reason that is known, the same with the colours lent as bytes, for C: run_bytes,
 // which does the work; for one line line_bytes, and undrawn_line for the unit alone of one that is not drawn.
 ghost use mathlib.Core.Path.{_≡_};

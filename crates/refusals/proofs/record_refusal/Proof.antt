@@ -29,9 +29,6 @@ returns-3 c = search form-cases
 returns-4 : tie.Need-returns-4
 returns-4 c = search form-cases
 
-returns-5 : tie.Need-returns-5
-returns-5 c = search needs
-
 pub record-refusal-spec : {M : Type 1} → statement M
 record-refusal-spec =
     tie.close
@@ -42,5 +39,4 @@ record-refusal-spec =
     well-formed-requires
     returns-2
     returns-3
-    returns-4
-    returns-5)
+    returns-4)
