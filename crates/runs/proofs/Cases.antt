@@ -96,7 +96,7 @@ run-short u l r n o p b f k why most x hk g h ex = refused-run u l r n o p b f f
     short = rw (ne-eqb (length f) 256 h) (last-not (accessSizes (u .board) (length l) (length r) (length n) (length o) (length p)) (eqb (length b) 256))
 
     not-0 : k ≡ 0 → ⊥
-    not-0 z = true≢false (sym (order-sized _ _ _ _ _ (unfold plainRefusal in sym hk ∙ z)))
+    not-0 z = let e : order true (isWellFormed u) false true false ≡ 0 = unfold plainRefusal in sym hk ∙ z in true≢false (sym (order-sized true (isWellFormed u) false true false e))
 
 pub numbers-done : (c : Call) (u : Ppu) (a : Access) (l r n o p b b′ f f′ g g′ : List ℕ) → numbersOf g ≡ f → f′ ≡ numbersOf g′
     → lineOutcome a l r n o p b′ (numbersOf g′) ≡ onLent c (state u (lineMemory l r n o p b (numbersOf g))) → lineOutcome a l r n o p b′ f′ ≡ onLent c (state u (lineMemory l r n o p b f))

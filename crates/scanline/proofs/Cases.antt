@@ -10,7 +10,7 @@ use lib.Dec.{ltb, eqb}
 use lib.ListN.{length, getD, List·getD-eq-default}
 use borrow.Author.Tests.{lt-ltb, le-ltb, ltb-true, ltb-false}
 use Rattle.model.specs.declared.Ppu.{Ppu}
-use Rattle.model.specs.Unit.{unit, withScanline, State, state, lineMemory, lastLine, bit, isRendering, isWellFormed}
+use Rattle.model.specs.Unit.{nametableLength, unit, withScanline, State, state, lineMemory, lastLine, bit, isRendering, isWellFormed}
 use Rattle.model.specs.Address.{tableOf}
 use Rattle.model.specs.Background.{backgroundAt}
 use Rattle.model.specs.Sprites.{overflows}
@@ -255,7 +255,7 @@ module _ (l r n o p : List ℕ) (why most : ℕ) (u₀ : Ppu) (b₀ f₀ : List 
               drawn = record {
                 left = inv .lengths .drawn .left;
                 right = inv .lengths .drawn .right;
-                nametables = inv .lengths .drawn .nametables;
+                nametables = inv .lengths .drawn .nametables ∙ sym (ap nametableLength board);
                 oam = inv .lengths .drawn .oam;
                 line = k ∙ inv .lengths .drawn .line;
               };
