@@ -1,5 +1,5 @@
 // Runs the checked values through the public calls and prints one line each.
-// Calls: warmed, wrote, tried, got, drew, ran, number. What they show: place, cell, opaque_column, stepped, lowered, wide, shown, looked, overflow,
+// Calls: warmed, wrote, tried, got, lent, drew, ran, number. What they show: place, stored, cell, page_cell, opaque_column, stepped, lowered, wide, shown, looked, overflow,
 // search_with.
 // Lines: say, say_hex.
 // One function a group of values: cells, palette_cells, scrolling, stepping, rows, status, runs, colours, searches, refusals,
@@ -49,6 +49,15 @@ fn tried(u: Ppu, address: u16, oam: &[u8]) -> Access {
 fn got(u: Ppu, address: u16) -> Access {
     let oam = [0u8; 256];
     tried(u, address, &oam)
+}
+
+// A read of port 2 with this nametable RAM; all memory zero.
+fn lent(u: Ppu, nametables: &[u8]) -> Access {
+    let left = [0u8; 4096];
+    let right = [0u8; 4096];
+    let oam = [0u8; 256];
+    let palette = [0u8; 32];
+    ppu::read(u, 0x2002, &left, &right, nametables, &oam, &palette)
 }
 
 // The unit after a line whose only opaque tile stands at this cell; all other memory is zero.
@@ -119,13 +128,12 @@ fn place(s: &[u8], byte: u8) -> usize {
     i
 }
 
-// The cell that a write of port 7 stores in, for a board and v: of the palette from $3F00, else of nametable RAM.
-fn cell(board: u8, v: u16) -> usize {
+// The cell that a write of port 7 stores in, for a board and v: of the palette from $3F00, else of nametable RAM, which is all zero.
+fn stored(board: u8, v: u16, nametables: &mut [u8]) -> usize {
     let mut u = warmed(board);
     u.v = v;
     let mut left = [0u8; 4096];
     let mut right = [0u8; 4096];
-    let mut nametables = [0u8; 2048];
     let mut oam = [0u8; 256];
     let mut palette = [0u8; 32];
     ppu::write(
@@ -134,14 +142,25 @@ fn cell(board: u8, v: u16) -> usize {
         42,
         &mut left,
         &mut right,
-        &mut nametables,
+        nametables,
         &mut oam,
         &mut palette,
     );
     if v < 0x3F00 {
-        return place(&nametables, 42);
+        return place(nametables, 42);
     }
     place(&palette, 42)
+}
+
+// The same with nametable RAM of two pages, and of four.
+fn cell(board: u8, v: u16) -> usize {
+    let mut nametables = [0u8; 2048];
+    stored(board, v, &mut nametables)
+}
+
+fn page_cell(v: u16) -> usize {
+    let mut nametables = [0u8; 4096];
+    stored(4, v, &mut nametables)
 }
 
 // The first column of a line, drawn with the background from v on under wiring 1, that shows the tile at this cell.
@@ -183,6 +202,12 @@ fn cells() {
     say(b"$2405, wiring 0: cell ", cell(0, 0x2405) as u64);
     say(b"$2405, wiring 1: cell ", cell(1, 0x2405) as u64);
     say(b"$3EFF, wiring 0: cell ", cell(0, 0x3EFF) as u64);
+    say(b"$2000, wiring 4: cell ", page_cell(0x2000) as u64);
+    say(b"$2400, wiring 4: cell ", page_cell(0x2400) as u64);
+    say(b"$2800, wiring 4: cell ", page_cell(0x2800) as u64);
+    say(b"$2C05, wiring 4: cell ", page_cell(0x2C05) as u64);
+    say(b"$2FFF, wiring 4: cell ", page_cell(0x2FFF) as u64);
+    say(b"$3EFF, wiring 4: cell ", page_cell(0x3EFF) as u64);
 }
 
 fn palette_cells() {
@@ -378,6 +403,17 @@ fn refusals() {
     late.scanline = 262;
     say(b"next line 262: ", number(got(late, 0x2002)));
     say(
+        b"next line 262, 257 bytes of OAM: ",
+        number(tried(late, 0x2002, &oam)),
+    );
+    let ram = [0u8; 4096];
+    say(b"wiring 0, 4096 bytes: ", number(lent(u, &ram)));
+    say(
+        b"wiring 4, 2048 bytes: ",
+        number(lent(warmed(4), &ram[..2048])),
+    );
+    say(b"wiring 4, 4096 bytes: ", number(lent(warmed(4), &ram)));
+    say(
         b"a search on line 240: ",
         number(ppu::search(late, 240, &oam)),
     );
@@ -399,6 +435,9 @@ fn records() {
     let short = [0u8; 15];
     say(b"15 bytes of a record: ", number(ppu::load(&short)));
     say(b"board byte 4: ", number(ppu::fresh(4)));
+    say(b"board byte 5: ", number(ppu::fresh(5)));
+    say(b"board byte 12: ", number(ppu::fresh(12)));
+    say(b"board byte 13: ", number(ppu::fresh(13)));
 }
 
 // Where byte 42 stands in a tile, by its table, and a part where a table is too short.
