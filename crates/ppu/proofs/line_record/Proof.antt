@@ -30,6 +30,9 @@ returns c = search run-2
 read-unit-requires : tie.Need-read-unit-requires
 read-unit-requires c κs = search form-long
 
+line-sizes-requires : tie.Need-line-sizes-requires
+line-sizes-requires c κs = search needs
+
 draws-requires : tie.Need-draws-requires
 draws-requires c κs = search needs
 
@@ -51,18 +54,15 @@ same-length-4 c = search needs
 returns-2 : tie.Need-returns-2
 returns-2 c =
     run-3 _ _ _ _ _ _ _ _ _ _ _
-    (c .before .before .before .before .before .before .before .before .before .before .before .before .before .before .before .before .before .before .before .before .before .before .before .before .before .before .pre)
+    (c .before .before .before .before .before .before .before .before .before .before .before .before .before .before .before .before .before .before .before .before .before .before .before .before .before .before .before .before .before .pre)
     _
-    (c .before .before .before .before .before .before .before .before .before .before .before .before .before .before .before .before .record-refusal .ensures)
+    (c .before .before .before .before .before .before .before .before .before .before .before .before .before .before .before .before .before .before .before .record-refusal .ensures)
     _ _ _ _ _
-    (c .before .before .before .before .before .before .before .before .before .before .before .before .before .before .before .if1 .left)
-    (c .before .before .before .before .before .before .before .before .before .before .before .before .before .read-unit .ensures)
+    (c .before .before .before .before .before .before .before .before .before .before .before .before .before .before .before .before .before .before .if1 .left)
+    (c .before .before .before .before .before .before .before .before .before .before .before .before .before .before .before .before .read-unit .ensures)
     (c .before .before .before .before .before .before .before .before .line-bytes .ensures)
     (c .before .before .finish .ensures .1)
     (c .before .before .finish .ensures .0)
-
-line-sizes-requires : tie.Need-line-sizes-requires
-line-sizes-requires c κs = search needs
 
 undrawn-line-requires : tie.Need-undrawn-line-requires
 undrawn-line-requires c κs = (search unit-formed, search draws-not)
@@ -92,9 +92,9 @@ returns-3 c =
     _
     (c .before .before .before .before .before .before .before .before .before .before .before .before .before .before .before .before .before .read-unit .ensures)
     _
-    (c .before .before .before .before .before .before .before .before .before .before .before .before .before .line-sizes .ensures)
+    (c .before .before .before .before .before .before .before .before .before .before .before .before .before .before .before .line-sizes .ensures)
     _ _ _ _
-    (c .before .before .before .before .before .before .before .before .before .before .before .before .if3 .taken)
+    (c .before .before .before .before .before .before .before .before .before .before .before .before .before .before .if2 .taken)
     (c .before .before .before .before .before .before .before .before .before .before .before .undrawn-line .ensures)
     (c .before .before .before .before .before .before .before .before .before .finish2 .ensures .1)
     (c .before .before .before .before .before .before .before .before .before .finish2 .ensures .0)
@@ -106,15 +106,15 @@ same-length-8 c = search needs
 returns-4 : tie.Need-returns-4
 returns-4 c =
     run-4 _ _ _ _ _ _ _ _ _ _
-    (c .before .before .before .before .before .before .before .before .before .before .before .before .before .before .before .before .before .before .pre)
+    (c .before .before .before .before .before .before .before .before .before .before .before .before .before .before .before .before .pre)
     _
-    (c .before .before .before .before .before .before .before .before .record-refusal .ensures)
-    (c .before .before .before .before .before .before .before .if1 .left)
+    (c .before .before .before .before .before .before .record-refusal .ensures)
+    (c .before .before .before .before .before .if1 .left)
     _
-    (c .before .before .before .before .before .read-unit .ensures)
+    (c .before .before .before .read-unit .ensures)
     _
     (c .before .line-sizes .ensures)
-    (c .if3 .left)
+    (c .if2 .left)
     refl
 
 pub line-record-spec : {M : Type 1} → statement M
@@ -126,6 +126,7 @@ line-record-spec =
     same-length
     returns
     read-unit-requires
+    line-sizes-requires
     draws-requires
     line-bytes-requires
     finish-requires
@@ -133,7 +134,6 @@ line-record-spec =
     same-length-3
     same-length-4
     returns-2
-    line-sizes-requires
     undrawn-line-requires
     finish-requires-2
     undrawn-buffers-requires
