@@ -5,6 +5,10 @@ examples/picture.tbl, the characters of its tiles, for tools/ppu-text.
 The picture says BLOOMCHISEL 2C02, with a row of sprites below it. Play it with ./play examples/picture.log.
 """
 from pathlib import Path
+import sys
+
+sys.dont_write_bytecode = True              # no folder beside the examples
+from records import Log
 
 # 8 x 8 letters, a row a number, bit 7 leftmost.
 FONT = {
@@ -17,57 +21,28 @@ SHINE = "00 18 3C 3C 00 00 00 00"
 PALETTE = "0F 30 16 27 0F 2A 1A 0A 0F 21 11 01 0F 28 18 08 0F 16 27 30 0F 12 21 31 0F 2A 1A 3A 0F 24 14 34"
 TEXT = "BLOOMCHISEL 2C02"
 
-log = bytearray()
-
-
-def write(port, byte):
-    log.extend((1, 0x20, port, byte))
-
-
-def read(port):
-    log.extend((0, 0x20, port, 0))
-
-
-def run(lines):
-    log.extend((2, lines >> 8, lines & 255, 0))
-
-
-def at(address):
-    read(2)
-    write(6, address >> 8)
-    write(6, address & 255)
-
-
-def fill(address, data):
-    at(address)
-    for byte in data:
-        write(7, byte)
-
-
-run(262)                                    # the unit warms up
+log = Log()
+log.run(262)                                # the unit warms up
 letters = sorted(set(TEXT))
 tiles = {letter: 1 + index for index, letter in enumerate(letters)}
 for letter, tile in tiles.items():
-    fill(16 * tile, bytes.fromhex(FONT[letter]) + bytes(8))
-fill(16 * 32, bytes.fromhex(BALL + SHINE))
-fill(0x3F00, bytes.fromhex(PALETTE))
-fill(0x2000, bytes(960))
-fill(0x2000 + 32 * 12 + 8, bytes(tiles[letter] for letter in TEXT))
-fill(0x23C0, bytes((0x00, 0x55, 0xAA, 0xFF) * 16))
-write(3, 0)
+    log.fill(16 * tile, bytes.fromhex(FONT[letter]) + bytes(8))
+log.fill(16 * 32, bytes.fromhex(BALL + SHINE))
+log.fill(0x3F00, bytes.fromhex(PALETTE))
+log.fill(0x2000, bytes(960))
+log.fill(0x2000 + 32 * 12 + 8, bytes(tiles[letter] for letter in TEXT))
+log.fill(0x23C0, bytes((0x00, 0x55, 0xAA, 0xFF) * 16))
+log.write(3, 0)
 for index in range(64):
-    sprite = (140, 32, index % 4, 40 + 24 * index) if index < 8 else (255, 0, 0, 0)
-    for byte in sprite:
-        write(4, byte)
-read(2)
-write(5, 0)
-write(5, 0)
-write(0, 0x80)                              # NMI on
-write(1, 0x1E)                              # background and sprites, left column too
+    log.write(4, *((140, 32, index % 4, 40 + 24 * index) if index < 8 else (255, 0, 0, 0)))
+log.read(2)
+log.write(5, 0, 0)
+log.write(0, 0x80)                          # NMI on
+log.write(1, 0x1E)                          # background and sprites, left column too
 for _ in range(3):
-    run(242)                                # to the vertical blank
-    read(2)
-    run(20)
+    log.run(242)                            # to the vertical blank
+    log.read(2)
+    log.run(20)
 Path(__file__).with_name("picture.log").write_bytes(log)
 table = ["# The font of picture.log: tile, character. Tile 00 is empty.", "00= "]
 table += [f"{tile:02X}={letter}" for letter, tile in tiles.items()]

@@ -1,6 +1,6 @@
 /* Plays a log of accesses line by line and keeps the picture, so that a viewer can stop after any line.
 
-   A log is a row of records of four bytes, which ppu.h describes and ppu_play plays. It starts from a fresh unit, board 9, all memory zero,
+   A log is a row of records of four bytes, which ppu.h describes and ppu_play plays. It starts from a fresh unit of a board, all memory zero,
    goes on after a refusal, and ends after a record that is none or is cut short (PPU_BAD_REQUEST). */
 #ifndef PLAY_H
 #define PLAY_H
@@ -11,7 +11,7 @@
 enum { PICTURE_WIDTH = PPU_LINE_LENGTH, PICTURE_HEIGHT = 240 };
 
 typedef struct {
-    uint8_t unit[PPU_RECORD_LENGTH], left[PPU_PATTERN_LENGTH], right[PPU_PATTERN_LENGTH], nametables[PPU_NAMETABLE_LENGTH];
+    uint8_t unit[PPU_RECORD_LENGTH], left[PPU_PATTERN_LENGTH], right[PPU_PATTERN_LENGTH], nametables[PPU_FOUR_PAGES_LENGTH];
     uint8_t oam[PPU_OAM_LENGTH], palette[PPU_PALETTE_LENGTH], line[PPU_LINE_LENGTH], colours[PPU_COLOURS_LENGTH];
     const uint8_t *log;
     size_t length;                 /* of the log, in bytes */
@@ -29,6 +29,9 @@ static inline unsigned play_word(const Play *p, int at) { return p->unit[at] + 2
 
 static inline size_t play_records(const Play *p) { return (p->length + PPU_LOG_RECORD_LENGTH - 1) / PPU_LOG_RECORD_LENGTH; }
 
+/* How much nametable RAM the board has: there is room for any, and so much of it is lent. */
+static inline size_t play_nametables(const Play *p) { return ppu_nametable_length(p->unit[PPU_AT_BOARD]); }
+
 static inline int play_ended(const Play *p)
 {
     return ppu_number(p->answer) == PPU_BAD_REQUEST || (p->records == play_records(p) && p->lines_left == 0);
@@ -44,12 +47,13 @@ static inline void play_answer(Play *p, uint64_t answer)
     }
 }
 
-static inline void play_start(Play *p, const uint8_t *log, size_t length)
+/* A board byte that is none shows in the answer: PPU_BAD_UNIT. */
+static inline void play_start(Play *p, const uint8_t *log, size_t length, uint8_t board)
 {
     memset(p, 0, sizeof *p);
     p->log = log;
     p->length = length;
-    play_answer(p, ppu_fresh(p->unit, sizeof p->unit, PPU_VERTICAL | PPU_WRITABLE));
+    play_answer(p, ppu_fresh(p->unit, sizeof p->unit, board));
 }
 
 /* The next record, played whole by the library: it knows what a record asks for. A run is then taken back, so that play_line can go through
@@ -62,7 +66,7 @@ static inline void play_record(Play *p)
     memcpy(p->record, p->log + at, rest < sizeof p->record ? rest : sizeof p->record);
     memcpy(before, p->unit, sizeof before);
     play_answer(p, ppu_play(p->unit, sizeof p->unit, p->log + at, rest, p->left, sizeof p->left, p->right, sizeof p->right, p->nametables,
-                            sizeof p->nametables, p->oam, sizeof p->oam, p->palette, sizeof p->palette, p->line, sizeof p->line, p->colours,
+                            play_nametables(p), p->oam, sizeof p->oam, p->palette, sizeof p->palette, p->line, sizeof p->line, p->colours,
                             sizeof p->colours));
     p->lines_left = ppu_lines(p->answer);
     if (p->lines_left)
@@ -80,7 +84,7 @@ static inline int play_line(Play *p)
     unsigned y = play_word(p, PPU_AT_NEXT_LINE);
     p->lines_left--;
     play_answer(p, ppu_run(p->unit, sizeof p->unit, 1, PPU_UNTIL_HIT, p->left, sizeof p->left, p->right, sizeof p->right, p->nametables,
-                           sizeof p->nametables, p->oam, sizeof p->oam, p->palette, sizeof p->palette, p->line, sizeof p->line, p->colours,
+                           play_nametables(p), p->oam, sizeof p->oam, p->palette, sizeof p->palette, p->line, sizeof p->line, p->colours,
                            sizeof p->colours));
     if (y < PICTURE_HEIGHT)
         for (unsigned x = 0; x < PICTURE_WIDTH; x++)

@@ -10,7 +10,10 @@
 
 enum { PICTURES_A_SECOND = 60, MOST_SCALE = 16, BAD_USE = 2 };
 
-static const char usage[] = "usage: viewer [--scale N] [--palette FILE] [--paused] [--until-picture N] LOG\n"
+static const char usage[] = "usage: viewer [--board N] [--scale N] [--palette FILE] [--paused] [--until-picture N] LOG\n"
+                            "  --board N          the board byte, 0 to 4 or 8 to 12; 9 if not said. Wiring 0 horizontal, 1 vertical, 2 first page,\n"
+                            "                     3 second page, 4 four pages (each quarter its own page, 4096 bytes of nametable RAM), and 8\n"
+                            "                     more if pattern memory can be written\n"
                             "  --scale N          the window's size at first, 1 to 16 times; 2 if not said\n"
                             "  --palette FILE     64 colours of 3 bytes, red, green, blue, or 512, 64 for each emphasis, none first\n"
                             "  --paused           waits before the first record\n"
@@ -22,6 +25,7 @@ typedef struct {
     const char *log, *palette;
     int scale, paused;
     unsigned long until; /* pictures; 0: to the log's end */
+    uint8_t board;
 } Options;
 
 typedef struct {
@@ -55,13 +59,15 @@ static unsigned long number(const char *option, const char *text, unsigned long 
 
 static Options options(char **words)
 {
-    Options o = { NULL, NULL, 2, 0, 0 };
+    Options o = { NULL, NULL, 2, 0, 0, PPU_VERTICAL | PPU_WRITABLE };
     while (*++words) {
         if (strcmp(*words, "--help") == 0) {
             fputs(usage, stdout);
             exit(0);
         } else if (strcmp(*words, "--paused") == 0) {
             o.paused = 1;
+        } else if (strcmp(*words, "--board") == 0) {
+            o.board = (uint8_t)number("--board", *++words, 0, 255);
         } else if (strcmp(*words, "--scale") == 0) {
             o.scale = (int)number("--scale", *++words, 1, MOST_SCALE);
         } else if (strcmp(*words, "--until-picture") == 0) {
@@ -202,7 +208,7 @@ static int press(Viewer *v, SDL_Keycode key)
         v->playing = 0;
         play_to_hit(v);
     } else if (key == SDLK_r) {
-        play_start(&v->play, v->play.log, v->play.length);
+        play_start(&v->play, v->play.log, v->play.length, v->play.unit[PPU_AT_BOARD]);
     } else if (key == SDLK_s) {
         write_screen(v);
     }
@@ -257,7 +263,9 @@ int main(int argc, char **argv)
     size_t length;
     uint8_t *log = read_file(o.log, &length);
     set_colours(&v.screen, o.palette);
-    play_start(&v.play, log, length);
+    play_start(&v.play, log, length, o.board);
+    if (ppu_number(v.play.answer) == PPU_BAD_UNIT)
+        fail("--board", "a board byte is wanted, 0 to 4 or 8 to 12");
     v.name = strrchr(o.log, '/') ? strrchr(o.log, '/') + 1 : o.log;
     v.playing = !o.paused;
     v.until = o.until;

@@ -39,14 +39,16 @@ static void pictures(void)
     for (unsigned i = 0; i < 8; i++) {
         begin(i % 4 + i / 4 * 8, i % 2 ? 0x10 : 0x6F, 0x0A);
         picture(from[i][0], from[i][1]);
+        begin(PPU_FOUR_PAGES + i / 4 * PPU_WRITABLE, i % 2 ? 0x6F : 0x10, 0x0A);
+        picture(from[i][0], from[i][1]);
     }
     part("whole pictures under each wiring, from eight places: scroll, page turns to the right and down, v after each line");
 }
 
 /* every column of the four nametables, so every fine x, every page turn and p = 255 beyond it */
-static void columns(void)
+static void columns(unsigned board)
 {
-    begin(1, 0x08, 0x0A);
+    begin(board, 0x08, 0x0A);
     for (unsigned column = 0; column < 512; column++) {
         unsigned row = column * 7 % 480;
         at = column;
@@ -55,7 +57,64 @@ static void columns(void)
             wanted[p] = (uint8_t)background_at(&m, column + p, row);
         expect_line(v_at(column, row + 1));
     }
-    part("a line from every column: fine x, and the turn of the nametable after column 31");
+}
+
+/* each page of one number, 1, 5, 9 and 13, so that a pixel says which page it comes from */
+static void numbered_pages(void)
+{
+    begin(PPU_FOUR_PAGES, 0, 0x0A);
+    solid(0, 0, 1);
+    store_tiles(&m);
+    for (int page = 0; page < 4; page++) {
+        memset(m.nametables + 1024 * page, 0, 960);
+        memset(m.nametables + 1024 * page + 960, 0x55 * page, 64);
+    }
+}
+
+/* a line from this column has one page up to the border, then the other */
+static void expect_border(unsigned column, unsigned row, unsigned page, unsigned next)
+{
+    unsigned before = 256 - column % 256;
+    set_line(&m, 90, column, row);
+    memset(wanted, (int)(4 * page + 1), before);
+    memset(wanted + before, (int)(4 * next + 1), 256 - before);
+    expect_line(v_at(column, row + 1));
+}
+
+/* from each column over the borders 0|1, 1|0, 2|3 and 3|2, on the first and last row of each page */
+static void upright_borders(void)
+{
+    static const unsigned rows[] = { 0, 1, 119, 238, 239 };
+    numbered_pages();
+    for (unsigned column = 0; column < 256; column++)
+        for (int i = 0; i < 5; i++) {
+            at = (long)(1000 * column + rows[i]);
+            expect_border(column, rows[i], 0, 1);
+            expect_border(256 + column, rows[i], 1, 0);
+            expect_border(column, 240 + rows[i], 2, 3);
+            expect_border(256 + column, 240 + rows[i], 3, 2);
+        }
+    part("four pages, from every column: the borders 0|1, 2|3, and round from 1 to 0 and from 3 to 2");
+}
+
+/* pictures that begin in each page and go over the borders below and to the right; from page 3 round both, so that page 0 is at its corner */
+static void level_borders(void)
+{
+    static const unsigned right[4] = { 1, 0, 3, 2 }, below[4] = { 2, 3, 0, 1 }, lines[] = { 1, 7, 8, 120, 239 };
+    numbered_pages();
+    for (unsigned page = 0; page < 4; page++)
+        for (int i = 0; i < 5; i++) {
+            unsigned column = page % 2 * 256 + 101, row = page / 2 * 240 + 240 - lines[i];
+            set_line(&m, 0, column, row);
+            for (unsigned line = 0; line < 240; line++) {
+                unsigned from = line < lines[i] ? page : below[page];
+                at = (long)(100000 * page + 1000 * lines[i] + line);
+                memset(wanted, (int)(4 * from + 1), 155);
+                memset(wanted + 155, (int)(4 * right[from] + 1), 101);
+                expect_line(v_at(column, row + line + 1));
+            }
+        }
+    part("four pages, whole pictures: the borders 0/2, 1/3, round from 2 to 0 and 3 to 1, with the page to the right; from 3 to 0 at the corner");
 }
 
 /* 32 solid columns in each page, numbered by their tile: which columns a line shows */
@@ -65,7 +124,7 @@ static void fine_x(void)
     for (int tile = 0; tile < 256; tile++)
         solid(0, tile, tile % 4);
     store_tiles(&m);
-    memset(m.nametables, 1, 2048);
+    memset(m.nametables, 1, m.length[NAMETABLES]);
     for (unsigned page = 0; page < 2; page++)
         memset(m.nametables + 1024 * page + 960, 0, 64);
     m.nametables[3] = 2;        /* column 3 of the first page */
@@ -128,7 +187,7 @@ static void transparent(void)
 static void tables(void)
 {
     begin(0, 0, 0x0A);
-    memset(m.nametables, 7, 2048);
+    memset(m.nametables, 7, m.length[NAMETABLES]);
     solid(0, 7, 1);
     solid(1, 7, 2);
     store_tiles(&m);
@@ -161,25 +220,30 @@ static void masks(void)
 }
 
 /* rows 30 and 31 are attribute bytes taken for tiles; their own attributes are those of rows 28 and 29, lower quarters */
+static void expect_attributes_as_tiles(unsigned page, unsigned row, unsigned y)
+{
+    const uint8_t *bytes = m.nametables + 1024 * page;
+    unsigned v = y * 4096 + page * 1024 + row * 32, after = page * 1024;
+    at = v;
+    set_line(&m, 60, 0, 0);
+    set_word(m.unit, PPU_AT_V, v);
+    set_word(m.unit, PPU_AT_T, page * 1024);
+    for (unsigned p = 0; p < 256; p++) {
+        unsigned colour = tile_colours[0][bytes[32 * row + p / 8]][y][p % 8];
+        unsigned palette = bytes[960 + 56 + p / 32] / (p % 32 < 16 ? 16 : 64) % 4;
+        wanted[p] = (uint8_t)(colour ? 4 * palette + colour : 0);
+    }
+    expect_line(y < 7 ? after + (y + 1) * 4096 + row * 32 : row == 30 ? after + 31 * 32 : after);
+}
+
 static void rows_30_and_31(void)
 {
-    begin(1, 0, 0x0A);
-    for (unsigned row = 30; row < 32; row++)
-        for (unsigned y = 0; y < 8; y++)
-            for (unsigned page = 0; page < 2; page++) {
-                const uint8_t *bytes = m.nametables + 1024 * page;
-                unsigned v = y * 4096 + page * 1024 + row * 32, after = page * 1024;
-                at = v;
-                set_line(&m, 60, 0, 0);
-                set_word(m.unit, PPU_AT_V, v);
-                set_word(m.unit, PPU_AT_T, page * 1024);
-                for (unsigned p = 0; p < 256; p++) {
-                    unsigned colour = tile_colours[0][bytes[32 * row + p / 8]][y][p % 8];
-                    unsigned palette = bytes[960 + 56 + p / 32] / (p % 32 < 16 ? 16 : 64) % 4;
-                    wanted[p] = (uint8_t)(colour ? 4 * palette + colour : 0);
-                }
-                expect_line(y < 7 ? after + (y + 1) * 4096 + row * 32 : row == 30 ? after + 31 * 32 : after);
-            }
+    static const unsigned boards[][2] = { { PPU_VERTICAL, 2 }, { PPU_FOUR_PAGES, 4 } }; /* with its pages */
+    for (int i = 0; i < 2; i++) {
+        begin(boards[i][0], 0, 0x0A);
+        for (unsigned n = 0; n < 16 * boards[i][1]; n++)
+            expect_attributes_as_tiles(n / 16, 30 + n / 8 % 2, n % 8);
+    }
     part("rows 30 and 31: attribute bytes as tiles; after row 31 row 0 of the same nametable");
 }
 
@@ -232,7 +296,11 @@ int main(void)
 {
     m = machine();
     pictures();
-    columns();
+    columns(PPU_VERTICAL);
+    columns(PPU_FOUR_PAGES);
+    part("a line from every column, of two pages and of four: fine x, and the turn of the nametable after column 31");
+    upright_borders();
+    level_borders();
     fine_x();
     attributes();
     transparent();

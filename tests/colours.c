@@ -196,6 +196,7 @@ static void scrolled(void)
             unsigned column = 256 + n % 32 * 8 + n % 7, row = 240 + (24 + n / 32 % 6) * 8 + (n < 6 * 32 ? 3 : 7);
             at = (long)(10 * n) + i;
             m.unit[PPU_AT_MASK] = (uint8_t)masks[i];
+            m.unit[PPU_AT_BOARD] = n % 3 ? PPU_FOUR_PAGES : PPU_FIRST_PAGE;
             set_line(&m, 77, column, row);
             EXPECT(word(m.unit, PPU_AT_V) % 0x4000 >= 0x3F00, 1);
             for (unsigned p = 0; p < 256; p++) {
@@ -215,7 +216,7 @@ static void nothing_shown(void)
     static const unsigned masks[] = { 0x08, 0x10, 0x18, 0xF1 };
     begin();
     set_palette(60);
-    memset(m.nametables, 0, 2048);
+    memset(m.nametables, 0, m.length[NAMETABLES]);
     no_sprites(&m);
     for (unsigned v = 0x3F00; v < 0x8000; v += v == 0x3FFF ? 0x3F01 : 1)
         for (int i = 0; i < 4; i++) {
@@ -302,7 +303,7 @@ static void blank_lines(void)
             copy(&wanted, &m);
             EXPECT(lines_by(way, lines), answer(0, 0, lines));
             for (int i = LEFT; i < BUFFERS; i++)
-                EXPECT_BYTES(*buffer(&m, i), *buffer(&wanted, i), right_lengths[i]);
+                EXPECT_BYTES(*buffer(&m, i), *buffer(&wanted, i), wanted.length[i]);
         }
     part("lines 240 to 261, by ppu_run with each reason and by ppu_play: neither buffer is touched, with v in the palette or not");
 }

@@ -5,9 +5,10 @@ static Machine m, wanted;
 
 static void begin(unsigned mask, unsigned next_line, unsigned oamaddr)
 {
-    static const uint8_t record[16] = { 0x7F, 0, 0x60, 0, 0x45, 0x63, 0x55, 0x55, 2, 1, 0x77, 0x5A, 0, 0, 1, 10 };
+    static const uint8_t record[16] = { 0x7F, 0, 0x60, 0, 0x45, 0x63, 0x55, 0x55, 2, 1, 0x77, 0x5A, 0, 0, 1, 0 };
     scatter(&m, 3 + oamaddr);
     memcpy(m.unit, record, 16);
+    m.unit[PPU_AT_BOARD] = oamaddr % 3 ? PPU_FIRST_PAGE + PPU_WRITABLE : PPU_FOUR_PAGES;
     m.unit[PPU_AT_MASK] = (uint8_t)mask;
     m.unit[PPU_AT_OAMADDR] = (uint8_t)oamaddr;
     set_word(m.unit, PPU_AT_NEXT_LINE, next_line);

@@ -198,7 +198,7 @@ test_bad_words() {
     refuses "$out/none: No such file" "$out/none"
     refuses "$out: Is a directory" "$out"
     refuses "$out/none: No such file" --palette "$out/none" "$log"
-    local length scale
+    local length scale board
     for length in 0 191 193 384 1535 1537; do
         head -c "$length" /dev/zero >"$out/wrong"
         refuses "$out/wrong: $length bytes; a palette has 192 or 1536" --palette "$out/wrong" "$log"
@@ -207,6 +207,13 @@ test_bad_words() {
     for scale in 0 17 -1 2x 99999999999999999999 ""; do
         refuses "--scale: a number from 1 to 16" --scale "$scale" "$log"
     done
+    for board in 5 6 7 13 15 16 255; do
+        refuses "--board: a board byte is wanted, 0 to 4 or 8 to 12" --board "$board" "$log"
+    done
+    for board in -1 256 x ""; do
+        refuses "--board: a number from 0 to 255" --board "$board" "$log"
+    done
+    refuses "--board: a number from 0 to 255" "$log" --board
     refuses "--until-picture: a number" "$log" --until-picture
     refuses "--until-picture: a number" --until-picture 0 "$log"
     refuses "--fast: unknown" --fast "$log"
@@ -368,18 +375,54 @@ test_pictures() {
     say "the viewer's picture is the reckoned one: in a file's colours, after 100 lines of it, at twice its size, in greys, with emphasis"
 }
 
-# Four pictures of a capture against the emulator's finished colours: with emphasis, then in greyscale, by backdrop override, and so in greyscale.
-test_capture() {
-    local k
-    start "${compilers[0]}" --scale 1 --palette "$out/all.pal" --until-picture 52 "$out/ports_w1.log"
-    for k in 51 52 53 54; do
-        title "ports_w1.log: picture $((k + 1)), paused before line 240"
-        keys n
-        title "ports_w1.log: picture $((k + 2)), paused before line 240"
-        look capture "$(place)" "$out/all.pal" ports_w1 "$k"
+# to_picture LOG FROM TO: the viewer, paused after picture FROM of the log, goes on to picture TO
+to_picture() {
+    keys --repeat $(($3 - $2)) n
+    title "$1: picture $3, paused before line 240"
+}
+
+# pages_shown BOARD PICTURE..: these pictures of examples/pages.log under a board are the reckoned ones, and the third is so after a start anew
+pages_shown() {
+    local board=$1 k before=0
+    start "${compilers[0]}" --scale 1 --paused --board "$board" "$root/examples/pages.log"
+    title "pages.log: picture 0, paused before line 0"
+    panel_says "BOARD       $(printf '\\$%02X' "$board")"
+    for k in "${@:2}" 3; do
+        [ "$k" -ge "$before" ] || { keys r && before=0; }
+        to_picture pages.log "$before" "$k"
+        look pages "$(place)" examples/2c02.pal "$board" "$k"
+        before=$k
     done
     quit q
-    say "the viewer shows the emulator's finished colours: emphasis, greyscale and backdrop override of a capture"
+}
+
+# On four pages: quarters 0, 1, 3, 2 and pictures between them, and at last where they meet. Under the board that is taken without --board only two of
+# them; under one whose pattern memory cannot be written the backdrop alone.
+test_pages() {
+    pages_shown 12 3 35 67 97 127 159 191 207 223
+    pages_shown 9 35 127 223
+    pages_shown 4 35
+    say "the viewer's --board: examples/pages.log on four pages, and under other boards, is as reckoned"
+}
+
+# capture_shown NAME K..: these pictures of a capture have the emulator's finished colours
+capture_shown() {
+    local name=$1 k before=0
+    start "${compilers[0]}" --scale 1 --paused --palette "$out/all.pal" --board "$(cat "$out/$name.board")" "$out/$name.log"
+    title "$name.log: picture 0, paused before line 0"
+    for k in "${@:2}"; do
+        to_picture "$name.log" "$before" $((k + 2))
+        look capture "$(place)" "$out/all.pal" "$name" "$k"
+        before=$((k + 2))
+    done
+    quit q
+}
+
+# With emphasis, then in greyscale, by backdrop override, and so in greyscale; scrolled over four pages.
+test_captures() {
+    capture_shown ports_w1 51 52 53 54
+    capture_shown scroll2_w4 10 25 40 55
+    say "the viewer shows the emulator's finished colours: emphasis, greyscale and backdrop override of a capture, the four pages of another"
 }
 
 # 60 pictures a second, and the space bar
@@ -461,7 +504,8 @@ test_viewer() {
     test_keys
     test_hits
     test_pictures
-    test_capture
+    test_pages
+    test_captures
     test_time
     test_panel
 }

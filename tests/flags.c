@@ -17,7 +17,7 @@ static void begin(unsigned control, unsigned mask, int back)
     }
     store_tiles(&m);
     no_sprites(&m);
-    memset(m.nametables, back, 2048);
+    memset(m.nametables, back, m.length[NAMETABLES]);
     set_unit(&m, 0, control, mask);
 }
 
@@ -115,9 +115,26 @@ static void hit_by_others(void)
     }
     no_sprites(&m);
     set_sprite(&m, 0, 20, 1, 0, 50);
-    memset(m.nametables, 0, 2048);
+    memset(m.nametables, 0, m.length[NAMETABLES]);
     expect_status(21, 0);
     part("no hit by another sprite, by a transparent pixel, or over a transparent background");
+}
+
+/* of a board with four pages one is opaque: sprite 0 hits where the picture is scrolled into that one, to its first row or its last */
+static void hit_on_pages(void)
+{
+    for (unsigned n = 0; n < 32; n++) {
+        unsigned page = n / 2 % 4, quarter = n / 8;
+        at = n;
+        begin(0, 0x1E, 0);
+        m.unit[PPU_AT_BOARD] = PPU_FOUR_PAGES;
+        memset(m.nametables + 1024 * page, 1, 960);
+        set_sprite(&m, 0, 20, 1, 0, 50);
+        set_line(&m, 21, quarter % 2 * 256, quarter / 2 * 240 + (n % 2 ? 239 : 0));
+        EXPECT(ppu_number(one_line(&m)), 0);
+        EXPECT(m.unit[PPU_AT_STATUS], page == quarter ? 0x40 : 0);
+    }
+    part("four pages, one of them opaque: hits exactly where it is shown");
 }
 
 /* bits 7, 6 and 5 that are set stay through drawn lines; a read of port 2 takes only bit 7; line 261 takes all */
@@ -240,6 +257,7 @@ int main(void)
     hit_right_edge();
     hit_lines();
     hit_by_others();
+    hit_on_pages();
     flags_stay();
     overflow_counts();
     overflow_lines();

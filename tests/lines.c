@@ -3,11 +3,14 @@
 
 static Machine m, wanted;
 
-/* a record with something in every field, before this line; OAM and tables scattered, Y bytes all below the picture */
+/* a record with something in every field, before this line, of the next of seven boards; OAM and tables scattered, Y bytes all below the picture */
 static void begin(unsigned control, unsigned mask, unsigned status, unsigned line)
 {
-    static const uint8_t record[16] = { 0, 0, 0, 0x9C, 0x46, 0x35, 0x39, 0x0A, 3, 1, 0xD1, 0xD2, 0, 0, 1, 9 };
+    static const uint8_t record[16] = { 0, 0, 0, 0x9C, 0x46, 0x35, 0x39, 0x0A, 3, 1, 0xD1, 0xD2, 0, 0, 1, 0 };
+    static const uint8_t boards[7] = { 9, 4, 10, 12, 0, 4, 1 };
+    static unsigned begun;
     memcpy(m.unit, record, 16);
+    m.unit[PPU_AT_BOARD] = boards[begun++ % 7];
     m.unit[PPU_AT_CONTROL] = (uint8_t)control;
     m.unit[PPU_AT_MASK] = (uint8_t)mask;
     m.unit[PPU_AT_STATUS] = (uint8_t)status;
@@ -27,7 +30,7 @@ static void expect_line(void)
 static void scene(void)
 {
     scatter(&m, 31);
-    memset(m.nametables, 0, 2048);
+    memset(m.nametables, 0, m.length[NAMETABLES]);
     scatter_tiles(13);
     solid(0, 0, 0);
     solid(1, 0, 0);
@@ -128,9 +131,9 @@ static void cold(void)
 }
 
 /* from power on to the second picture, one line at a time, with the writes that a program makes */
-static void from_power_on(void)
+static void from_power_on(unsigned board)
 {
-    EXPECT(ppu_fresh(m.unit, 16, 9), 0);
+    EXPECT(ppu_fresh(m.unit, 16, (uint8_t)board), 0);
     for (unsigned line = 0; line < 262; line++) {
         at = line;
         EXPECT(word(m.unit, PPU_AT_NEXT_LINE), line);
@@ -147,7 +150,6 @@ static void from_power_on(void)
         EXPECT(one_line(&m), answer(0, line >= 241 && line < 261, 1));
         EXPECT(m.unit[PPU_AT_CONTROL], 0x90);
     }
-    part("two frames from power on: warm-up, status bit 7 and the NMI level line by line");
 }
 
 int main(void)
@@ -160,7 +162,9 @@ int main(void)
     blank_lines();
     line_261();
     cold();
-    from_power_on();
+    from_power_on(PPU_VERTICAL + PPU_WRITABLE);
+    from_power_on(PPU_FOUR_PAGES);
+    part("two frames from power on, of boards with two pages and four: warm-up, status bit 7 and the NMI level line by line");
     release(&m);
     release(&wanted);
     return verdict("tests/lines");

@@ -54,9 +54,8 @@ static inline unsigned v_at(unsigned column, unsigned row)
 /* the background's number at that pixel, 0 where it is not opaque */
 static inline unsigned background_at(const Machine *m, unsigned column, unsigned row)
 {
-    static const unsigned pages[4][4] = { { 0, 0, 1, 1 }, { 0, 1, 0, 1 }, { 0, 0, 0, 0 }, { 1, 1, 1, 1 } };
     unsigned quarter = row % 480 / 240 * 2 + column % 512 / 256, x = column % 256, y = row % 480 % 240;
-    const uint8_t *page = m->nametables + 1024 * pages[m->unit[PPU_AT_BOARD] % 4][quarter];
+    const uint8_t *page = m->nametables + 1024 * page_of(m->unit[PPU_AT_BOARD], quarter);
     unsigned attribute = page[960 + y / 32 * 8 + x / 32], half = x % 32 / 16 + 2 * (y % 32 / 16);
     unsigned palette = half == 0 ? attribute % 4 : half == 1 ? attribute / 4 % 4 : half == 2 ? attribute / 16 % 4 : attribute / 64;
     unsigned colour = tile_colours[m->unit[PPU_AT_CONTROL] / 16 % 2][page[y / 8 * 32 + x / 8]][y % 8][x % 8];

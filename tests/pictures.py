@@ -9,12 +9,14 @@ pictures.py palettes FOLDER            writes palette files: all.pal, 512 colour
                                        where emphasis changes it; and 0.512 and 1.512, those with the others that 64 are to give
 pictures.py every-colour LOG           writes a log whose pictures 2 to 4 show each of the 512 finished colours, a row each
 pictures.py every-row PAL FOLDER       FOLDER/picture-0002.png to -0004.png are those pictures
-pictures.py drawn LOG PNG              the last picture of LOG in grey, scroll 0 and no access while drawing, shows what is worked out here
+pictures.py drawn BOARD LOG PNG..      these pictures of LOG in grey, by the numbers in their names, show what is worked out here, with no access while
+                                       drawing: the quarters as BOARD wires them, scrolled
 pictures.py scaled N SMALL LARGE       LARGE is SMALL with each pixel N x N
 pictures.py coloured PAL LOG GREY PNG  PNG is the GREY picture through palette RAM, as LOG fills it at last, and the palette file
 pictures.py rows PNG RRGGBB:COUNT..    each row of PNG has one colour: so many rows of each, in this order
 """
 from fractions import Fraction
+from functools import cache
 from itertools import count
 import json
 import lzma
@@ -26,6 +28,7 @@ import zlib
 
 CAPTURES = Path(__file__).with_name("captures")
 WIDTH, HEIGHT = 256, 240
+BOARDS = (*range(5), *range(8, 13))
 
 
 def need(holds, text):
@@ -109,6 +112,11 @@ def fill(address, data):
     return write(6, address >> 8, address & 255) + write(7, *data)
 
 
+def page_of(board, quarter):
+    """The page of nametable RAM that a quarter shows: wirings 0 to 4, horizontal, vertical, first page, second page, four pages."""
+    return (quarter // 2, quarter % 2, 0, 1, quarter)[board % 8]
+
+
 def names():
     return sorted(path.name.split(".")[0] for path in CAPTURES.glob("*.json"))
 
@@ -189,43 +197,63 @@ def every_row(palette_file, folder):
 
 
 class Filled:
-    """What a log leaves in memory, by its writes alone, the unit taken as warmed up and the board as 9: vertical wiring, patterns writable."""
+    """What a log leaves in memory, by its writes alone, the unit taken as warmed up; and its pictures: of each the control, the mask, and the scroll
+    that it begins with, None where this does not know it."""
 
-    def __init__(self, path):
-        self.pattern, self.nametables, self.oam, self.palette = bytearray(8192), bytearray(2048), bytearray(256), bytearray(32)
-        self.control = self.mask = self.scroll = self.oamaddr = self.address = self.half = 0
+    def __init__(self, path, board=9):
+        self.board, self.pictures, self.filled = board, [], 0       # filled: how many pictures were whole when memory last changed
+        self.pattern, self.nametables, self.oam, self.palette = bytearray(8192), bytearray(4096), bytearray(256), bytearray(32)
+        self.control = self.mask = self.oamaddr = self.address = self.half = self.line = 0
+        self.quarter = self.x = self.y = self.scroll = None
         log = Path(path).read_bytes()
         for kind, high, low, byte in zip(log[::4], log[1::4], log[2::4], log[3::4]):
-            port = (256 * high + low) % 8
-            if kind == 1:
-                self.write(port, byte)
-            elif kind == 0 and port == 2:
+            number = 256 * high + low
+            if kind == 2:
+                for _ in range(number):
+                    self.run_line()
+            elif kind == 1:
+                self.write(number % 8, byte)
+            elif number % 8 == 2:
                 self.half = 0
+
+    def run_line(self):
+        known = None not in (self.quarter, self.x, self.y)
+        if self.line == 261:
+            self.scroll = (256 * (self.quarter % 2) + self.x, HEIGHT * (self.quarter // 2) + self.y) if known else None
+        if self.line == HEIGHT - 1:
+            self.pictures.append((self.control, self.mask, self.scroll))
+        self.line = (self.line + 1) % 262
 
     def write(self, port, byte):
         if port == 0:
-            self.control = byte
+            self.control, self.quarter = byte, byte % 4
         elif port == 1:
             self.mask = byte
         elif port == 3:
             self.oamaddr = byte
         elif port == 4:
             self.oam[self.oamaddr] = byte
-            self.oamaddr = (self.oamaddr + 1) % 256
-        elif port == 5:
-            self.scroll, self.half = self.scroll | byte, 1 - self.half
-        elif port == 6:
-            self.address = self.address % 256 + 256 * byte if self.half == 0 else self.address // 256 * 256 + byte
+            self.oamaddr, self.filled = (self.oamaddr + 1) % 256, len(self.pictures)
+        elif port in (5, 6):
+            self.write_half(port, byte)
             self.half = 1 - self.half
         elif port == 7:
             self.store(self.address % 16384, byte)
-            self.address += 1
+            self.address, self.filled = self.address + 1, len(self.pictures)
+
+    def write_half(self, port, byte):
+        """An address takes the place of the scroll: it is known again when ports 5 and 0 are written behind it."""
+        if port == 5:
+            self.x, self.y = (byte, self.y) if self.half == 0 else (self.x, byte)
+        else:
+            self.quarter = self.x = self.y = None
+            self.address = self.address % 256 + 256 * byte if self.half == 0 else self.address // 256 * 256 + byte
 
     def store(self, address, byte):
         if address < 0x2000:
-            self.pattern[address] = byte
+            self.pattern[address] = byte if self.board & 8 else 0
         elif address < 0x3F00:
-            self.nametables[address % 2048] = byte
+            self.nametables[1024 * page_of(self.board, address // 1024 % 4) + address % 1024] = byte
         else:
             self.palette[address % (16 if address % 4 == 0 else 32)] = byte % 64
 
@@ -233,27 +261,45 @@ class Filled:
         at = 4096 * table + 16 * tile + row
         return (self.pattern[at] >> 7 - column & 1) + 2 * (self.pattern[at + 8] >> 7 - column & 1)
 
-    def background(self, x, y):
-        attribute = self.nametables[960 + y // 32 * 8 + x // 32] >> y // 16 % 2 * 4 + x // 16 % 2 * 2 & 3
-        colour = self.colour(self.control >> 4 & 1, self.nametables[y // 8 * 32 + x // 8], y % 8, x % 8)
+    def background(self, quarter, x, y, table):
+        page = 1024 * page_of(self.board, quarter)
+        attribute = self.nametables[page + 960 + y // 32 * 8 + x // 32] >> y // 16 % 2 * 4 + x // 16 % 2 * 2 & 3
+        colour = self.colour(table, self.nametables[page + y // 8 * 32 + x // 8], y % 8, x % 8)
         return 4 * attribute + colour if colour else 0
 
-    def picture(self):
-        """Scroll 0, sprites of 8 x 8 that are neither turned nor behind, everything shown."""
-        need(self.scroll == 0 and self.control & 0x27 == 0 and self.mask & 0x1E == 0x1E, "a log that this cannot draw")
-        rows = [bytearray(self.background(x, y) for x in range(WIDTH)) for y in range(HEIGHT)]
+    @cache
+    def world(self, table):
+        """All four quarters: 480 rows of 512 pixels."""
+        return [bytes(self.background(y // HEIGHT * 2 + x // WIDTH, x % WIDTH, y % HEIGHT, table) for x in range(2 * WIDTH)) for y in range(2 * HEIGHT)]
+
+    def picture(self, number):
+        """Of all pictures this one, from 1. Memory stays as it is behind it; sprites of 8 x 8 that are neither turned nor behind; the left column too."""
+        control, mask, scroll = self.pictures[number - 1]
+        if mask & 0x18 == 0:
+            return bytes(WIDTH * HEIGHT)
+        need(scroll and number > self.filled and control & 0x24 == 0 and mask & 0x1E in (0x0A, 0x1E), "a picture that this cannot draw")
+        x, y = scroll
+        world = self.world(control >> 4 & 1)
+        rows = [bytearray((2 * world[(y + line) % len(world)])[x:x + WIDTH]) for line in range(HEIGHT)]
+        if mask & 0x10:
+            self.add_sprites(rows, control >> 3 & 1)
+        return b"".join(rows)
+
+    def add_sprites(self, rows, table):
         for y, tile, attribute, x in reversed(list(zip(*[iter(self.oam)] * 4))):
             need(attribute < 4 or y >= 239, "a sprite that this cannot draw")
             for row in range(min(8, max(0, 239 - y))):
                 for column in range(min(8, 256 - x)):
-                    colour = self.colour(self.control >> 3 & 1, tile, row, column)
+                    colour = self.colour(table, tile, row, column)
                     if colour:
                         rows[y + 1 + row][x + column] = 16 + 4 * (attribute % 4) + colour
-        return b"".join(rows)
 
 
-def drawn(log, path):
-    need(Png(path).numbers() == Filled(log).picture(), f"{path}: not the picture worked out")
+def drawn(board, log, *paths):
+    filled = Filled(log, int(board))
+    for path in paths:
+        number = int(Path(path).stem.rsplit("-", 1)[1])
+        need(Png(path).numbers() == filled.picture(number), f"{path}: not the picture worked out, board {board}")
 
 
 def scaled(scale, small, large):

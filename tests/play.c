@@ -108,80 +108,65 @@ static void cut_logs(void)
     part("logs of 0 to 12 bytes: 5 exactly below 4; what stands behind the first record is not looked at");
 }
 
-/* a memory of another length; a record keeps as many of its bytes as there is room for */
-static void lend_filled(int which, size_t length)
-{
-    uint8_t record[16];
-    memcpy(record, m.unit, 16);
-    lend(&m, which, length);
-    memset(*buffer(&m, which), 0x2D, length);
-    if (which == UNIT)
-        memcpy(m.unit, record, length < 16 ? length : 16);
-}
-
 static int looks_at(int kind, int which) { return which != PAGE && (kind == 2 || (which != LINE && which != COLOURS)); }
 
 static void lengths(void)
 {
     static const uint8_t records[3][4] = { { 0, 0x20, 0x02, 0 }, { 1, 0x20, 0x03, 0x3C }, { 2, 0, 3, 0 } };
     for (int kind = 0; kind < 3; kind++)
-        for (int which = 0; which < BUFFERS; which++) {
-            const size_t right = right_lengths[which], tried[] = { 0, right - 1, right + 1, right + 256, right + 65536 };
-            for (int i = 0; i < 5; i++) {
-                at = 100 * kind + 10 * which + i;
+        for (int which = 0; which < BUFFERS; which++)
+            for (int i = 0; i < 12; i++) {
+                at = 1000 * kind + 100 * which + i;
                 restart(0x1E, 100);
-                lend_filled(which, tried[i]);
+                m.unit[PPU_AT_BOARD] = i % 2 ? PPU_FOUR_PAGES : PPU_VERTICAL;
+                const size_t right = right_length(&m, which), other_board = other_length(&m, which);
+                const size_t tried[] = { 0, right - 1, right + 1, right + 256, right + 65536, other_board };
+                lend_filled(&m, which, tried[i / 2]);
                 if (looks_at(kind, which)) {
                     expect_refused(records[kind], 4, PPU_BAD_LENGTH);
                 } else {
                     copy(&other, &m);
                     EXPECT(ppu_number(play_of(&m, records[kind], 4)), PPU_DONE);
-                    EXPECT_BYTES(*buffer(&m, which), *buffer(&other, which), tried[i]);
+                    EXPECT_BYTES(*buffer(&m, which), *buffer(&other, which), tried[i / 2]);
                 }
             }
-        }
-    part("each memory with other lengths: an access looks at neither line nor colours; else 2");
+    part("each memory with other lengths, of boards with two pages and four: an access looks at neither line nor colours; else 2");
 }
 
-/* what can be wrong, in the order of the checks, and the number that it gives; a run has no address and no port */
-enum { REQUEST, LENGTH, MALFORMED, OUTSIDE, SHUT, WRONGS };
-
-static const unsigned number_of[WRONGS] = { PPU_BAD_REQUEST, PPU_BAD_LENGTH, PPU_BAD_UNIT, PPU_BAD_ADDRESS, PPU_DRAWING };
-
-/* a record of the kind with each thing of the set wrong; how: which kind of 5 */
+/* a record of the kind with each thing of the set wrong; how: which kind of 5, which field, and how long the unit's record and the memory are */
 static void together(int kind, unsigned set, int which, int how)
 {
     uint8_t record[4] = { (uint8_t)kind, set >> OUTSIDE & 1 ? 0x40 : 0x20, 0x07, 0 };
     size_t length = 4;
-    int first = 0;
     if (kind == 2)
         record[1] = 0;
     restart(set >> SHUT & 1 ? 0x18 : 0, 100);
+    if (set >> MEMORY & 1)
+        lend_filled(&m, which, how == 2 ? other_length(&m, which) : right_length(&m, which) + (how ? 1 : (size_t)-1));
     if (set >> MALFORMED & 1)
-        m.unit[PPU_AT_FINE_X] = 8;
-    if (set >> LENGTH & 1)
-        lend_filled(which, right_lengths[which] + 1);
+        m.unit[how == 1 ? PPU_AT_BOARD : PPU_AT_FINE_X] = 13;
+    if (set >> RECORD & 1)
+        lend_filled(&m, UNIT, how == 2 ? 0 : how ? 17 : 15);
     if (set >> REQUEST & 1) {
         record[0] = how == 0 ? 3 : record[0];
         record[3] = how == 1 ? 1 : 0;
         length = how == 2 ? 3 : 4;
     }
-    while (!(set >> first & 1))
-        first++;
-    expect_refused(record, length, number_of[first]);
+    expect_refused(record, length, number_for(set));
 }
 
+/* a run has no address and no port */
 static void order(void)
 {
     for (int kind = 0; kind < 3; kind++)
         for (unsigned set = 1; set < (kind == 2 ? 1u << OUTSIDE : 1u << WRONGS); set++)
-            for (int which = 0; which < BUFFERS; which++)
+            for (int which = LEFT; which < BUFFERS; which++)
                 for (int how = 0; how < 3; how++) {
                     at = (long)(1000 * (unsigned)kind + set);
-                    if (looks_at(kind, which) && !(kind == 1 && how == 1))
+                    if (looks_at(kind, which) && !(kind == 1 && how == 1 && set >> REQUEST & 1))
                         together(kind, set, which, how);
                 }
-    part("every set of things wrong at once: the first in the order 5, 2, 3, 1, 4, and nothing changes");
+    part("every set of things wrong at once: the first in the order 5, 2 for the record, 3, 2 for memory, 1, 4, and nothing changes");
 }
 
 /* the same access by ppu_read or ppu_write on a copy */

@@ -3,10 +3,10 @@
 
 static Machine m, wanted;
 
-static const unsigned boards[8] = { 0, 1, 2, 3, 8, 9, 10, 11 };
+/* the second half is writable */
+enum { BOARDS = 10 };
 
-/* the pages of the quarters under each wiring */
-static const unsigned pages[4][4] = { { 0, 0, 1, 1 }, { 0, 1, 0, 1 }, { 0, 0, 0, 0 }, { 1, 1, 1, 1 } };
+static const unsigned boards[BOARDS] = { 0, 1, 2, 3, 4, 8, 9, 10, 11, 12 };
 
 /* the palette's cells at $3F00 to $3F1F */
 static const unsigned cells[32] = { 0, 1,  2,  3,  4, 5,  6,  7,  8, 9,  10, 11, 12, 13, 14, 15,
@@ -23,7 +23,7 @@ static void map(unsigned board)
     }
     for (unsigned quarter = 0; quarter < 4; quarter++)
         for (unsigned i = 0; i < 1024; i++) {
-            uint8_t *byte = wanted.nametables + pages[board % 8][quarter] * 1024 + i;
+            uint8_t *byte = wanted.nametables + page_of(board, quarter) * 1024 + i;
             place[0x2000 + 1024 * quarter + i] = byte;
             place[0x3000 + 1024 * quarter + i] = byte;
         }
@@ -72,7 +72,7 @@ static void expect_read(unsigned v, int by_32)
 
 static void reads(void)
 {
-    for (int i = 0; i < 8; i++) {
+    for (int i = 0; i < BOARDS; i++) {
         begin(boards[i]);
         for (unsigned v = 0; v < 32768; v++)
             for (int by_32 = 0; by_32 < 2; by_32++) {
@@ -96,10 +96,11 @@ static void expect_write(unsigned v, unsigned byte, int writable)
     EXPECT_BYTES(m.unit, wanted.unit, 16);
 }
 
-/* all memory is compared after every 61st write, at the ends of each part, and last; upwards and downwards */
+/* all memory, with pages that the board does not have, is compared after every 61st write, at the ends of each part, and last; upwards and
+   downwards */
 static void writes(void)
 {
-    for (int i = 0; i < 8; i++)
+    for (int i = 0; i < BOARDS; i++)
         for (int down = 0; down < 2; down++) {
             begin(boards[i]);
             for (unsigned n = 0; n < 32768; n++) {
@@ -117,7 +118,7 @@ static void writes(void)
 /* a byte written by port 7 is the one that a read, after the first, gives; at v = 0, 1, .. with v set by port 6 */
 static void write_then_read(void)
 {
-    for (int i = 4; i < 8; i++) {
+    for (int i = BOARDS / 2; i < BOARDS; i++) {
         begin(boards[i]);
         m.unit[PPU_AT_WARMED_UP] = 1;
         m.unit[PPU_AT_W] = 0;
@@ -138,9 +139,10 @@ static void write_then_read(void)
 }
 
 /* every byte in every palette cell, read with and without greyscale under the latch's top bits, and written */
-static void palette(void)
+static void palette(unsigned board)
 {
-    begin(1);
+    begin(board);
+    set_word(m.unit, PPU_AT_NEXT_LINE, 241);
     for (unsigned byte = 0; byte < 256; byte++)
         for (unsigned i = 0; i < 32; i++) {
             unsigned latch = byte * 3 % 256, v = 0x3F00 + 32 * (byte % 8) + i;
@@ -160,14 +162,20 @@ static void palette(void)
             EXPECT(write_at(&m, 0x2007, byte), 0);
             EXPECT(m.palette[cells[i]], byte % 64);
         }
-    EXPECT_BYTES(m.nametables, wanted.nametables, 2048);
+    EXPECT_BYTES(m.nametables, wanted.nametables, m.length[NAMETABLES]);
+}
+
+static void palettes(void)
+{
+    palette(PPU_VERTICAL);
+    palette(PPU_FOUR_PAGES);
     part("every byte in every palette cell: six bits, greyscale, the latch's top bits, the buffer from underneath");
 }
 
 /* greyscale masks only palette reads */
 static void greyscale_elsewhere(void)
 {
-    begin(8);
+    begin(PPU_FOUR_PAGES + PPU_WRITABLE);
     m.unit[PPU_AT_MASK] = 1;
     for (unsigned a = 0; a < 0x3F00; a++) {
         at = a;
@@ -181,8 +189,67 @@ static void greyscale_elsewhere(void)
     }
     EXPECT_BYTES(m.left, wanted.left, 4096);
     EXPECT_BYTES(m.right, wanted.right, 4096);
-    EXPECT_BYTES(m.nametables, wanted.nametables, 2048);
+    EXPECT_BYTES(m.nametables, wanted.nametables, m.length[NAMETABLES]);
     part("greyscale touches no other address");
+}
+
+/* FOUR PAGES. The one cell of nametable RAM that a write at v changes; LENGTH if it is none or more than one. */
+enum { LENGTH = PPU_FOUR_PAGES_LENGTH };
+
+static unsigned cell_changed(unsigned v)
+{
+    memset(m.nametables, 0, LENGTH);
+    set_v(v, 0);
+    EXPECT(write_at(&m, 0x2007, 0xC5), 0);
+    const uint8_t *end = m.nametables + LENGTH, *found = memchr(m.nametables, 0xC5, LENGTH);
+    if (!found || memchr(found + 1, 0xC5, (size_t)(end - found - 1)))
+        return LENGTH;
+    return (unsigned)(found - m.nametables);
+}
+
+/* each cell is that of one address from $2000 to $2FFF, and they come again from $3000 to $3EFF */
+static void cells_written(unsigned board)
+{
+    uint8_t reached[LENGTH + 1] = { 0 };
+    begin(board);
+    for (unsigned a = 0x2000; a < 0x3F00; a++) {
+        at = a;
+        unsigned cell = cell_changed(a);
+        EXPECT(cell, a % 4096);
+        if (a < 0x3000)
+            reached[cell]++;
+    }
+    for (unsigned cell = 0; cell < LENGTH; cell++) {
+        at = cell;
+        EXPECT(reached[cell], 1);
+    }
+}
+
+/* below $3F00 a byte comes one read later; from there the buffer takes the byte underneath, which is the last page's: cells 3840 to 4095 */
+static void cells_read(unsigned board)
+{
+    begin(board);
+    set_v(0x2000, 0);
+    read_at(&m, 0x2007);
+    for (unsigned cell = 0; cell < LENGTH; cell++) {
+        at = cell;
+        EXPECT(ppu_byte(read_at(&m, 0x2007)), m.nametables[cell]);
+    }
+    for (unsigned i = 0; i < 256; i++) {
+        at = i;
+        set_v(0x3F00 + i, 0);
+        EXPECT(ppu_number(read_at(&m, 0x2007)), 0);
+        EXPECT(m.unit[PPU_AT_READ_BUFFER], m.nametables[3840 + i]);
+    }
+}
+
+static void four_pages(void)
+{
+    for (unsigned board = PPU_FOUR_PAGES; board <= PPU_FOUR_PAGES + PPU_WRITABLE; board += PPU_WRITABLE) {
+        cells_written(board);
+        cells_read(board);
+    }
+    part("four pages: each cell from 0 to 4095 by one address of $2000-$2FFF, written and read; underneath $3F00-$3FFF 3840 to 4095");
 }
 
 /* the byte written at v shows up at this cell of nametable RAM */
@@ -224,6 +291,13 @@ static void checked_values(void)
     expect_cell(0, 0x2405, 5);
     expect_cell(1, 0x2405, 1029);
     expect_cell(0, 0x3EFF, 1791);
+    expect_cell(4, 0x2005, 5);
+    expect_cell(4, 0x2405, 1029);
+    expect_cell(4, 0x2805, 2053);
+    expect_cell(4, 0x2C05, 3077);
+    expect_cell(4, 0x2FFF, 4095);
+    expect_cell(4, 0x3EFF, 3839);
+    expect_cell(12, 0x2C05, 3077);
     expect_palette_cell(0x3F10, 0);
     expect_palette_cell(0x3F14, 4);
     expect_palette_cell(0x3F11, 17);
@@ -240,8 +314,9 @@ int main(void)
     reads();
     writes();
     write_then_read();
-    palette();
+    palettes();
     greyscale_elsewhere();
+    four_pages();
     checked_values();
     release(&m);
     release(&wanted);

@@ -1,4 +1,4 @@
-/* Five readings that look right and are not, each by what a picture or a read shows of it. */
+/* Five readings that look right and are not, each by what a picture or a read shows of it; then two of document 02's boards with four pages. */
 #include "picture.h"
 
 static Machine m;
@@ -10,7 +10,7 @@ static void begin(void)
         for (int table = 0; table < 2; table++)
             solid(table, tile, tile % 4);
     store_tiles(&m);
-    memset(m.nametables, 0, 2048);
+    memset(m.nametables, 0, m.length[NAMETABLES]);
     memset(m.palette, 0, 32);
     no_sprites(&m);
     EXPECT(ppu_fresh(m.unit, 16, PPU_VERTICAL), 0);
@@ -114,6 +114,48 @@ static void one_line_later(void)
     part("a sprite shows from the line after its Y byte");
 }
 
+/* Testing every length before the record: its board says how much nametable RAM there is. Only the record's own length goes before its bytes. */
+static void record_before_memory(void)
+{
+    begin();
+    EXPECT(ppu_fresh(m.unit, 16, PPU_FOUR_PAGES), 0);
+    lend(&m, NAMETABLES, PPU_NAMETABLE_LENGTH);
+    EXPECT(read_at(&m, 0x2002), PPU_BAD_LENGTH);
+    m.unit[PPU_AT_BOARD] = 5;
+    EXPECT(read_at(&m, 0x2002), PPU_BAD_UNIT);
+    lend(&m, OAM, 255);
+    EXPECT(read_at(&m, 0x2002), PPU_BAD_UNIT);
+    EXPECT(sprite_dma(&m), PPU_BAD_UNIT);
+    EXPECT(search_on(&m, 0), PPU_BAD_UNIT);
+    EXPECT(one_line(&m), PPU_BAD_UNIT);
+    lend(&m, UNIT, 15);
+    EXPECT(read_at(&m, 0x2002), PPU_BAD_LENGTH);
+    lend_right(&m);
+    part("a record that is not well formed is refused before a memory's length");
+}
+
+/* Taking the wiring from the board's low two bits. Board 4 would then be horizontal, and its quarter 3 page 1. */
+static void third_bit(void)
+{
+    begin();
+    EXPECT(ppu_fresh(m.unit, 16, PPU_FOUR_PAGES), 0);
+    EXPECT(run_lines(&m, 262, PPU_RUN_ALL), answer(0, 0, 262));
+    for (unsigned quarter = 0; quarter < 4; quarter++) {
+        write_at(&m, 0x2006, 0x20 + 4 * quarter);
+        write_at(&m, 0x2006, 0x00);
+        write_at(&m, 0x2007, 1 + quarter);
+    }
+    for (unsigned quarter = 0; quarter < 4; quarter++) {
+        at = quarter;
+        EXPECT(m.nametables[1024 * quarter], 1 + quarter);
+        set_line(&m, 0, quarter % 2 * 256, quarter / 2 * 240);
+        m.unit[PPU_AT_MASK] = 0x0A;
+        one_line(&m);
+        EXPECT(m.line[0], (1 + quarter) % 4);
+    }
+    part("board 4 is a wiring of its own: four pages, one for each quarter");
+}
+
 int main(void)
 {
     m = machine();
@@ -122,6 +164,8 @@ int main(void)
     row_31();
     buffer_underneath();
     one_line_later();
+    record_before_memory();
+    third_bit();
     release(&m);
     return verdict("tests/readings");
 }

@@ -17,7 +17,10 @@ static const int takes[CALLS][BUFFERS] = {
     { UNIT, LEFT, RIGHT, NAMETABLES, OAM, PALETTE, LINE, COLOURS, -1 },
 };
 
-static Machine m, before;
+/* a board with two pages and one with four */
+enum { TWO = PPU_VERTICAL + PPU_WRITABLE, FOUR = PPU_FOUR_PAGES + PPU_WRITABLE };
+
+static Machine m, before, whole;
 
 static uint64_t call(int which, unsigned address)
 {
@@ -39,10 +42,12 @@ static uint64_t call(int which, unsigned address)
     }
 }
 
-static void restart(unsigned mask, unsigned line)
+/* a good unit with this board, and scattered memory of its right lengths */
+static void restart(unsigned board, unsigned mask, unsigned line)
 {
-    renew(&m, 7, mask, line);
-    copy(&before, &m);
+    copy(&m, &whole);
+    good_record(&m, mask, line);
+    m.unit[PPU_AT_BOARD] = (uint8_t)board;
 }
 
 /* what stands in m now is refused with this number, and stays */
@@ -53,25 +58,14 @@ static void expect_refused(int which, unsigned address, unsigned number)
     EXPECT_SAME(&m, &before);
 }
 
-/* another length for one buffer; a record keeps as many of its bytes as there is room for */
-static void lend_filled(int which, size_t length)
-{
-    uint8_t record[16];
-    memcpy(record, m.unit, 16);
-    lend(&m, which, length);
-    memset(*buffer(&m, which), 0x2D, length);
-    if (which == UNIT)
-        memcpy(m.unit, record, length < 16 ? length : 16);
-}
-
 /* before a blank line, a line that is off and one that is drawn */
-static void wrong_length(int which, int lent, size_t length)
+static void wrong_length(int which, unsigned board, int lent, size_t length)
 {
     static const unsigned states[][2] = { { 0, 241 }, { 0, 100 }, { 0x1E, 100 } };
     for (int i = 0; i < 3; i++) {
         at = (long)length;
-        restart(states[i][0], states[i][1]);
-        lend_filled(lent, length);
+        restart(board, states[i][0], states[i][1]);
+        lend_filled(&m, lent, length);
         copy(&before, &m);
         for (unsigned address = 0x2000; address < 0x2008; address++)
             EXPECT(call(which, address), 2);
@@ -79,38 +73,77 @@ static void wrong_length(int which, int lent, size_t length)
     }
 }
 
-/* every buffer of every call: one and two bytes either side of its length, the other memories' lengths, and lengths equal modulo 256 and 65536 */
-static void lengths(void)
+/* every buffer of a call: one and two bytes either side of its length, the other memories' lengths, and lengths equal modulo 256 and 65536 */
+static void lengths_of(int which, unsigned board)
 {
     static const size_t others[] = { 0, 1, 16, 32, 256, 512, 1024, 2048, 4096, 8192 };
-    for (int which = 0; which < CALLS; which++)
-        for (int i = 0; takes[which][i] >= 0; i++) {
-            int lent = takes[which][i];
-            size_t right = right_lengths[lent];
-            for (size_t length = right - 2; length <= right + 2; length++)
-                if (length != right)
-                    wrong_length(which, lent, length);
-            wrong_length(which, lent, right + 256);
-            wrong_length(which, lent, right + 65536);
-            for (size_t k = 0; k < sizeof others / sizeof others[0]; k++)
-                if (others[k] != right)
-                    wrong_length(which, lent, others[k]);
+    for (int i = 0; takes[which][i] >= 0; i++) {
+        int lent = takes[which][i];
+        size_t right = lent == NAMETABLES ? board == FOUR ? 4096 : 2048 : held[lent];
+        for (size_t length = right - 2; length <= right + 2; length++)
+            if (length != right)
+                wrong_length(which, board, lent, length);
+        wrong_length(which, board, lent, right + 256);
+        wrong_length(which, board, lent, right + 65536);
+        for (size_t k = 0; k < sizeof others / sizeof others[0]; k++)
+            if (others[k] != right)
+                wrong_length(which, board, lent, others[k]);
+    }
+}
+
+/* a board's nametable RAM has one length, and what is right for another board is wrong for it */
+static void nametable_lengths(void)
+{
+    static const size_t tried[] = { 0, 1, 1023, 1024, 1025, 2047, 2048, 2049, 3072, 4095, 4096, 4097, 6144, 8192, 67584, 69632 };
+    for (unsigned n = 0; n < 10 * 16; n++)
+        for (int which = 0; which < CALLS; which++) {
+            unsigned board = n / 80 * 8 + n / 16 % 5;
+            size_t length = tried[n % 16];
+            if (which == DMA || which == SEARCH)
+                continue;
+            at = (long)(100000 * board + length);
+            restart(board, 0, 241);
+            lend_filled(&m, NAMETABLES, length);
+            if (length == (board % 8 == PPU_FOUR_PAGES ? 4096 : 2048))
+                EXPECT(ppu_number(call(which, 0x2007)), 0);
+            else
+                expect_refused(which, 0x2007, 2);
         }
+    part("nametable RAM of ten boards: 4096 bytes for the two with four pages, 2048 for the others, all else refused 2");
+    for (size_t length = 0; length < 5000; length++) {
+        at = (long)length;
+        restart(TWO, 0, 241);
+        lend(&m, NAMETABLES, length);
+        EXPECT(ppu_number(read_at(&m, 0x2007)), length == 2048 ? 0 : 2);
+        restart(FOUR, 0, 241);
+        lend(&m, NAMETABLES, length);
+        EXPECT(ppu_number(read_at(&m, 0x2007)), length == 4096 ? 0 : 2);
+    }
+    part("nametable RAM of every length to 4999, read by a board with two pages and one with four");
+}
+
+static void lengths(void)
+{
+    for (int which = 0; which < CALLS; which++) {
+        lengths_of(which, TWO);
+        lengths_of(which, FOUR);
+    }
     part("every buffer of every call with other lengths, at each port, before lines blank, off and drawn: refused 2");
     for (int which = 0; which < CALLS; which++)
         for (int i = 0; takes[which][i] >= 0; i++)
             for (int k = 0; k < i; k++) {
+                int high = takes[which][i], low = takes[which][k];
                 at = 16 * i + k;
-                restart(0, 241);
-                lend_filled(takes[which][i], right_lengths[takes[which][i]] - 1);
-                lend_filled(takes[which][k], right_lengths[takes[which][k]] + 1);
+                restart(i % 2 ? TWO : FOUR, 0, 241);
+                lend_filled(&m, high, right_length(&m, high) - 1);
+                lend_filled(&m, low, right_length(&m, low) + 1);
                 expect_refused(which, 0x2002, 2);
             }
     part("two wrong lengths at once: refused 2");
     for (int which = 0; which < CALLS; which++)
         for (size_t length = 255; length <= 257; length++) {
             at = (long)length;
-            restart(0, 241);
+            restart(FOUR, 0, 241);
             lend(&m, OAM, length);
             EXPECT(ppu_number(call(which, 0x2003)), length == 256 ? 0 : 2);
         }
@@ -133,7 +166,7 @@ static int byte_ok(int offset, unsigned byte)
     case PPU_AT_NEXT_LINE + 1:
         return byte < 2;
     case PPU_AT_BOARD:
-        return byte < 4 || (byte >= 8 && byte < 12);
+        return byte < 5 || (byte >= 8 && byte < 13);
     default:
         return 1;
     }
@@ -141,7 +174,7 @@ static int byte_ok(int offset, unsigned byte)
 
 static void bytes_of_a_record(void)
 {
-    restart(0, 0);
+    restart(TWO, 0, 0);
     for (int which = 0; which < CALLS; which++)
         for (int offset = 0; offset < 16; offset++)
             for (unsigned byte = 0; byte < 256; byte++) {
@@ -164,7 +197,7 @@ static void numbers_of_a_record(void)
         int offset;
         unsigned limit;
     } numbers[] = { { PPU_AT_V, 32768 }, { PPU_AT_T, 32768 }, { PPU_AT_NEXT_LINE, 262 } };
-    restart(0, 0);
+    restart(TWO, 0, 0);
     for (int i = 0; i < 3; i++) {
         for (unsigned n = 0; n < 65536; n++) {
             at = n;
@@ -185,10 +218,27 @@ static void numbers_of_a_record(void)
     part("every v, t and next line of 16 bits: refused 3 from 32768, 32768 and 262");
 }
 
+/* a board that is not well formed asks for no length: it is refused whatever is lent of nametable RAM */
+static void bad_boards(void)
+{
+    static const size_t tried[] = { 0, 1024, 2047, 2048, 2049, 4095, 4096, 4097 };
+    for (int i = 0; i < 8; i++) {
+        restart(TWO, 0, 241);
+        lend_filled(&m, NAMETABLES, tried[i]);
+        for (unsigned byte = 0; byte < 256; byte++)
+            for (int which = 0; which < CALLS && !byte_ok(PPU_AT_BOARD, byte); which++) {
+                at = (long)(10000 * byte + tried[i]);
+                m.unit[PPU_AT_BOARD] = (uint8_t)byte;
+                expect_refused(which, 0x2000 + byte % 8, 3);
+            }
+    }
+    part("board bytes 5 to 7 and from 13 on, with any length of nametable RAM: refused 3");
+}
+
 static void addresses(void)
 {
     static const unsigned edges[] = { 0, 1, 0x1FF7, 0x1FFE, 0x1FFF, 0x4000, 0x4001, 0x4007, 0x5FFF, 0x6000, 0x8000, 0xA007, 0xFFFF };
-    restart(0, 241);
+    restart(TWO, 0, 241);
     for (unsigned address = 0; address < 65536; address++) {
         unsigned number = address >= 0x2000 && address <= 0x3FFF ? 0 : 1;
         at = address;
@@ -229,7 +279,7 @@ static void drawing_with(unsigned mask, unsigned line)
 static void drawing(void)
 {
     static const unsigned masks[] = { 0x00, 0x08, 0x10, 0x18, 0xE7 }, edges[] = { 0, 239, 240, 241, 260, 261 };
-    restart(0, 0);
+    restart(TWO, 0, 0);
     for (unsigned line = 0; line < 262; line++)
         for (int i = 0; i < 5; i++) {
             at = line;
@@ -253,41 +303,67 @@ static void drawing(void)
     part("every next line and mask, each port: refused 4 exactly while drawing, reads of 4 and 7, writes of 7");
 }
 
-/* the four refusals in every combination: the first in the order 2, 3, 1, 4 is given */
-static void together(int which, int holds, unsigned port, int lent, int field)
+/* THE ORDER. Three wrong lengths */
+static size_t wrong_way(int lent, unsigned way)
 {
-    int length = holds & 1, unit = holds & 2, outside = holds & 4, shut = holds & 8;
-    at = holds;
-    good_record(&m, shut ? 0x18 : 0, 100);
-    if (unit)
-        m.unit[field] = 0xFF;
-    if (length)
-        lend_filled(lent, right_lengths[lent] + 1);
-    expect_refused(which, (outside ? 0x4000 : 0x2000) + port, length ? 2 : unit ? 3 : outside ? 1 : 4);
-    if (length)
-        lend(&m, lent, right_lengths[lent]);
+    return way == 0 ? right_length(&m, lent) - 1 : way == 1 ? right_length(&m, lent) + 1 : other_length(&m, lent);
+}
+
+/* each thing of the set wrong, of a unit with this board: the number is that of the first */
+static void together(int which, unsigned set, unsigned board, int lent, int field, unsigned way)
+{
+    at = (long)(100 * set + way);
+    for (unsigned port = which == READ ? 4 : 7; port < 8; port += 3) {
+        restart(board, set >> SHUT & 1 ? 0x18 : 0, 100);
+        if (set >> MEMORY & 1)
+            lend_filled(&m, lent, wrong_way(lent, way));
+        if (set >> MALFORMED & 1)
+            m.unit[field] = 0xFF;
+        if (set >> RECORD & 1)
+            lend_filled(&m, UNIT, wrong_way(UNIT, way));
+        expect_refused(which, (set >> OUTSIDE & 1 ? 0x4000 : 0x2000) + port, number_for(set));
+    }
+}
+
+/* with each memory and each field of the record, where these are wrong */
+static void each_together(int which, unsigned set, unsigned board)
+{
+    static const int fields[] = { PPU_AT_STATUS, PPU_AT_V + 1, PPU_AT_T + 1, PPU_AT_FINE_X, PPU_AT_W, PPU_AT_NEXT_LINE + 1,
+                                  PPU_AT_WARMED_UP, PPU_AT_BOARD };
+    for (int i = 1; takes[which][i] >= 0 && (i == 1 || set >> MEMORY & 1); i++)
+        for (int k = 0; k < 8 && (k == 0 || set >> MALFORMED & 1); k++)
+            for (unsigned way = 0; way < 3; way++)
+                together(which, set, board, takes[which][i], fields[k], way);
+}
+
+/* every memory of a call wrong at once */
+static void all_memories(int which, unsigned way)
+{
+    for (unsigned board = TWO; board <= FOUR; board += FOUR - TWO) {
+        at = 10 * which + (long)way;
+        restart(board, 0x18, 100);
+        for (int i = 1; takes[which][i] >= 0; i++)
+            lend_filled(&m, takes[which][i], wrong_way(takes[which][i], way));
+        expect_refused(which, 0x4007, 2);
+        m.unit[PPU_AT_W] = 2;
+        expect_refused(which, 0x4007, 3);
+        lend_filled(&m, UNIT, wrong_way(UNIT, way));
+        expect_refused(which, 0x4007, 2);
+    }
 }
 
 static void order(void)
 {
-    static const int fields[] = { PPU_AT_STATUS, PPU_AT_V + 1, PPU_AT_T + 1, PPU_AT_FINE_X, PPU_AT_W, PPU_AT_NEXT_LINE + 1,
-                                  PPU_AT_WARMED_UP, PPU_AT_BOARD };
-    for (int which = READ; which <= WRITE; which++)
-        for (int holds = 1; holds < 16; holds++)
-            for (unsigned port = which == READ ? 4 : 7; port < 8; port += 3)
-                for (int lent = UNIT; lent <= PALETTE; lent++)
-                    for (int i = 0; i < 8; i++)
-                        together(which, holds, port, lent, fields[i]);
-    part("refusals together, of reads and writes: the first in the order 2, 3, 1, 4");
-    for (int which = DMA; which < CALLS; which++)
-        for (int i = 0; takes[which][i] >= 0; i++) {
-            at = which;
-            restart(0x18, 100);
-            m.unit[PPU_AT_W] = 2;
-            lend_filled(takes[which][i], right_lengths[takes[which][i]] - 1);
-            expect_refused(which, 0, 2);
+    for (int which = 0; which < CALLS; which++)
+        for (unsigned set = 1u << RECORD; set < (which <= WRITE ? 1u << WRONGS : 1u << OUTSIDE); set += 1u << RECORD) {
+            each_together(which, set, TWO);
+            each_together(which, set, FOUR);
         }
-    part("refusals together, of sprite DMA, searches and runs with each reason: 2 before 3");
+    part("every set of things wrong at once, in every call: the first in the order 2 for the record, 3, 2 for memory, 1, 4");
+    for (int which = 0; which < CALLS; which++)
+        for (unsigned way = 0; way < 3; way++)
+            all_memories(which, way);
+    part("every memory of another length: refused 2, but 3 where the record is not well formed, and 2 where it is not 16 bytes");
 }
 
 /* lengths and the record are tested before a line that does not draw, too */
@@ -297,11 +373,12 @@ static void blank_lines(void)
         int lent;
         size_t length;
         unsigned number;
-    } cases[] = { { LINE, 255, 2 },    { LINE, 257, 2 },    { LEFT, 4097, 2 },  { COLOURS, 511, 2 },
-                  { COLOURS, 513, 2 }, { COLOURS, 256, 2 }, { PALETTE, 31, 2 }, { PALETTE, 33, 2 }, { LINE, 256, 3 } };
-    for (int i = 0; i < 9; i++) {
-        restart(0, 0);
-        lend_filled(cases[i].lent, cases[i].length);
+    } cases[] = { { LINE, 255, 2 },    { LINE, 257, 2 },    { LEFT, 4097, 2 },       { COLOURS, 511, 2 },
+                  { COLOURS, 513, 2 }, { COLOURS, 256, 2 }, { PALETTE, 31, 2 },      { PALETTE, 33, 2 },
+                  { LINE, 256, 3 },    { LINE, 255, 3 },    { NAMETABLES, 4095, 2 }, { NAMETABLES, 4095, 3 } };
+    for (int i = 0; i < 12; i++) {
+        restart(TWO, 0, 0);
+        lend_filled(&m, cases[i].lent, cases[i].length);
         for (unsigned line = 0; line < 262; line++)
             for (int which = A_LINE; which < CALLS; which++) {
                 at = line;
@@ -317,14 +394,20 @@ int main(void)
 {
     m = machine();
     before = machine();
+    whole = machine();
+    scatter(&whole, 7);
+    copy(&m, &whole);
     lengths();
+    nametable_lengths();
     bytes_of_a_record();
     numbers_of_a_record();
+    bad_boards();
     addresses();
     drawing();
     order();
     blank_lines();
     release(&m);
     release(&before);
+    release(&whole);
     return verdict("tests/refusals");
 }

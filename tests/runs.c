@@ -128,7 +128,7 @@ static void none(void)
     for (unsigned p = 0; p < 262; p++)
         for (unsigned n = 0; n < 8 * REASONS; n++) {
             at = p;
-            set_unit(&m, n % 4, n & 1 ? 0xFF : 0x7F, n & 2 ? 0x1E : 0);
+            set_unit(&m, n % 5, n & 1 ? 0xFF : 0x7F, n & 2 ? 0x1E : 0);
             m.unit[PPU_AT_STATUS] = n & 4 ? 0x80 : 0x60;
             m.unit[PPU_AT_OAMADDR] = 0x55;
             set_word(m.unit, PPU_AT_NEXT_LINE, p);
@@ -139,10 +139,10 @@ static void none(void)
     part("n = 0 from every line with each reason: nothing changes, no line is run and nothing is met");
 }
 
-/* A picture that is switched on, scrolled to (100, 70): before line p v leads to its row. */
+/* A picture that is switched on, scrolled to (100, 70): before line p v leads to its row. Its board has two pages before odd lines, else four. */
 static void set_picture(unsigned p, unsigned control, unsigned status)
 {
-    set_unit(&m, 1, control, 0x1E);
+    set_unit(&m, p % 2 ? PPU_VERTICAL : PPU_FOUR_PAGES, control, 0x1E);
     set_line(&m, p, 100, p < 240 ? 70 + p : 70 + 240);
     set_word(m.unit, PPU_AT_T, v_at(100, 70));
     m.unit[PPU_AT_OAMADDR] = 0x44;
@@ -252,7 +252,7 @@ static int meets(unsigned reason, unsigned i)
 static Stop stop_within(unsigned reason, unsigned from, unsigned n)
 {
     Stop stop = { 0, 0 };
-    while (stop.ran < n && !stop.met) {
+    while (stop.ran < n && !stop.met && from + stop.ran < MOST_KEPT) {
         stop.met = meets(reason, from + stop.ran) ? 1 : 0;
         stop.ran++;
     }
@@ -475,7 +475,7 @@ static void scattered(void)
         scatter(&m, 100 + scene);
         for (int i = 0; i < 64; i++)
             m.oam[4 * i] = (uint8_t)(m.oam[4 * i] % (60 + 3 * scene));
-        set_unit(&m, scene % 4, m.page[0], 0x18 | m.page[1]);
+        set_unit(&m, scene % 5, m.page[0], 0x18 | m.page[1]);
         set_line(&m, m.page[2] + (scene % 5 ? 0 : 6u), m.page[3], m.page[4]);
         m.unit[PPU_AT_STATUS] = m.page[5] & 0xE0;
         keep_lines(524);
@@ -492,47 +492,58 @@ static void scattered(void)
     part("scattered scenes: each run is the lines that it runs, one at a time, up to its reason");
 }
 
-/* REFUSALS. What can be wrong of a run, in the order of the checks: its reason, a length, the record. */
-enum { REQUEST, LENGTH, MALFORMED };
+/* REFUSALS, for its reason, the record by its length and by its bytes, a memory */
+static const int lent[] = { LEFT, RIGHT, NAMETABLES, OAM, PALETTE, LINE, COLOURS };
 
-static const int lent[] = { UNIT, LEFT, RIGHT, NAMETABLES, OAM, PALETTE, LINE, COLOURS };
+enum { LENT = sizeof lent / sizeof lent[0] };
 
 /* each field with a value that it cannot have: next line becomes 262 */
 static const uint8_t wrong_fields[][2] = { { PPU_AT_STATUS, 0x90 }, { PPU_AT_V + 1, 128 },       { PPU_AT_T + 1, 128 },   { PPU_AT_FINE_X, 8 },
-                                           { PPU_AT_W, 2 },         { PPU_AT_NEXT_LINE + 1, 1 }, { PPU_AT_WARMED_UP, 2 }, { PPU_AT_BOARD, 4 } };
+                                           { PPU_AT_W, 2 },         { PPU_AT_NEXT_LINE + 1, 1 }, { PPU_AT_WARMED_UP, 2 }, { PPU_AT_BOARD, 5 } };
 
-/* a unit before line 6, on which the sprite 0 of set_scene(5) hits first */
-static void set_before_hit(void) { set_picture(6, 0x80, 0x80); }
+/* a unit before line 6, on which the sprite 0 of set_scene(5) hits first, of a board with four pages or, at times, two */
+static void set_before_hit(int two)
+{
+    set_picture(6, 0x80, 0x80);
+    if (two)
+        m.unit[PPU_AT_BOARD] = PPU_VERTICAL;
+}
+
+/* a length that is wrong in one of these ways */
+enum { WAYS = 6 };
+
+static size_t wrong_length(int which, int way)
+{
+    const size_t right = right_length(&m, which), lengths[WAYS] = { 0, right - 1, right + 1, right + 256, right + 65536, other_length(&m, which) };
+    return lengths[way];
+}
 
 /* a run from there with each thing of the set wrong: refused for the first of them, and nothing changes */
-static void expect_refused(unsigned set, unsigned reason, unsigned n, int which, size_t length, int field)
+static void expect_refused(unsigned set, unsigned reason, unsigned n, int which, int way, int field)
 {
-    uint8_t record[16];
-    set_before_hit();
+    set_before_hit((way + field) % 2);
     copy(&whole, &m);
+    if (set >> MEMORY & 1)
+        lend_filled(&m, which, wrong_length(which, way));
     if (set >> MALFORMED & 1)
         m.unit[wrong_fields[field][0]] = wrong_fields[field][1];
-    memcpy(record, m.unit, 16);
-    if (set >> LENGTH & 1) {
-        lend(&m, which, length);
-        memset(*buffer(&m, which), 0x2D, length);
-        memcpy(m.unit, record, m.length[UNIT] < 16 ? m.length[UNIT] : 16);
-    }
+    if (set >> RECORD & 1)
+        lend_filled(&m, UNIT, wrong_length(UNIT, way));
     copy(&wanted, &m);
-    EXPECT(run_lines(&m, n, reason), set >> REQUEST & 1 ? PPU_BAD_REQUEST : set >> LENGTH & 1 ? PPU_BAD_LENGTH : PPU_BAD_UNIT);
+    EXPECT(run_lines(&m, n, reason), number_for(set));
     EXPECT_SAME(&m, &wanted);
     copy(&m, &whole);
 }
 
+/* with each set of the other things wrong */
 static void unknown_reasons(void)
 {
     static const unsigned most[] = { 0, 1, 262, 65535 };
     set_scene(5);
     for (unsigned reason = REASONS; reason < 256; reason++)
         for (unsigned i = 0; i < 4 * 8; i++) {
-            int which = lent[(reason + i) % 8];
             at = (long)(100 * reason + i);
-            expect_refused(1u << REQUEST | i % 4 << LENGTH, reason, most[i / 8], which, right_lengths[which] + (reason % 2 ? 1 : (size_t)-1),
+            expect_refused(1u << REQUEST | i % 8 << RECORD, reason, most[i / 8], lent[(reason + i) % LENT], (int)(reason + i / 8) % WAYS,
                            (int)(reason + i / 4) % 8);
         }
     part("every reason from 3 to 255: refused 5, before 2 and 3, with n = 0 too, and nothing changes");
@@ -543,16 +554,16 @@ static void known_reasons(void)
     static const unsigned most[] = { 0, 1, 300 };
     set_scene(5);
     for (unsigned n = 0; n < 3 * REASONS; n++)
-        for (int i = 0; i < 8; i++) {
-            const size_t right = right_lengths[lent[i]], lengths[] = { 0, right - 1, right + 1, right + 256, right + 65536 };
-            at = (long)(100 * n) + i;
-            for (int k = 0; k < 10; k++)
-                expect_refused(1u << LENGTH | (unsigned)(k % 2) << MALFORMED, n / 3, most[n % 3], lent[i], lengths[k / 2], (i + k) % 8);
-            expect_refused(1u << MALFORMED, n / 3, most[n % 3], lent[i], 0, i);
-        }
-    set_before_hit();
-    EXPECT(run_lines(&m, 300, PPU_UNTIL_HIT), run_answer(1, 1, 1));
-    part("each reason: refused 2 with each memory of another length, before 3, and 3 with each field of the record wrong; nothing changes");
+        for (unsigned set = 1u << RECORD; set < 1u << OUTSIDE; set += 1u << RECORD)
+            for (int i = 0; i < LENT * WAYS; i++) {
+                at = (long)(10000 * n + 100 * set) + i;
+                expect_refused(set, n / 3, most[n % 3], lent[i % LENT], i / LENT, (i + (int)n) % 8);
+            }
+    for (int two = 0; two < 2; two++) {
+        set_before_hit(two);
+        EXPECT(run_lines(&m, 300, PPU_UNTIL_HIT), run_answer(1, 1, 1));
+    }
+    part("each reason, every set of other things wrong: the first in the order 2 for the record, 3, 2 for memory, and nothing changes");
 }
 
 /* THE OTHER CALLS: bit 17 of the answer is 0, and so are bits 18 to 23 */
@@ -567,7 +578,7 @@ static void expect_no_met(uint64_t given)
 static void expect_other_calls(unsigned reason, unsigned port)
 {
     uint8_t read[4] = { 0, 0x20, (uint8_t)port, 0 }, write[4] = { 1, 0x20, (uint8_t)port, 0xFF }, rows[960], table[256] = { 0 };
-    set_before_hit();
+    set_before_hit(port % 2);
     set_word(m.unit, PPU_AT_NEXT_LINE, reason == PPU_UNTIL_NMI ? 241 : 6);
     EXPECT(run_lines(&m, 1, reason), run_answer(1, 1, 1));
     m.unit[PPU_AT_MASK] = 0;
@@ -582,7 +593,7 @@ static void expect_other_calls(unsigned reason, unsigned port)
     expect_no_met(ppu_text(m.nametables, 1024, table, 256, rows, 960));
     memset(table, ' ', 256);
     expect_no_met(ppu_page(rows, 960, table, 256, m.nametables, 1024));
-    expect_no_met(ppu_fresh(m.unit, 16, (uint8_t)(port % 4)));
+    expect_no_met(ppu_fresh(m.unit, 16, (uint8_t)(port % 5)));
 }
 
 /* a run of a log, over line 241 with control bit 7 set and over hits: that of ppu_run with no reason */

@@ -3,7 +3,7 @@
 #include "picture.h"
 
 static Machine m, wanted;
-static unsigned number_drawn = 1;
+static unsigned number_drawn = 1, on_four_pages;
 
 /* the next of a row of numbers that follow no rule of the unit */
 static unsigned any(unsigned below)
@@ -55,8 +55,9 @@ static unsigned paint_line(unsigned line, unsigned column, unsigned row)
 static void scene_line(void)
 {
     static const unsigned masks[] = { 0x1E, 0x1E, 0x18, 0x1A, 0x1C, 0x16, 0x0A, 0xF9 };
-    unsigned line = any(240), column = any(512), row = any(480), board = any(4) + 8 * any(2);
+    unsigned line = any(240), column = any(512), row = any(480), board = any(5) + 8 * any(2);
     set_unit(&m, board, any(256), masks[any(8)]);
+    on_four_pages += board % 8 == PPU_FOUR_PAGES;
     set_line(&m, line, column, row);
     m.unit[PPU_AT_OAMADDR] = (uint8_t)any(256);
     memcpy(wanted.unit, m.unit, 16);
@@ -70,10 +71,10 @@ static void scene_line(void)
 }
 
 /* the 240 lines of one picture, with sprites and scroll, one line at a time */
-static void scene_picture(unsigned control, unsigned mask)
+static void scene_picture(unsigned board, unsigned control, unsigned mask)
 {
     unsigned column = any(512), row = any(480), status = 0;
-    set_unit(&m, any(4), control, mask);
+    set_unit(&m, board, control, mask);
     set_line(&m, 0, column, row);
     copy(&wanted, &m);
     for (unsigned line = 0; line < 240; line++) {
@@ -105,12 +106,13 @@ int main(void)
             scene_line();
         }
     }
-    part("1000 lines of scattered scenes: picture, colours, flags, record and memory");
-    for (unsigned i = 0; i < 6; i++) {
+    EXPECT(on_four_pages > 100, 1);
+    part("1000 lines of scattered scenes, on every board: picture, colours, flags, record and memory");
+    for (unsigned i = 0; i < 10; i++) {
         set_sprites();
-        scene_picture(i % 2 ? 0x38 : 0x10, i < 4 ? 0x1E : 0x18);
+        scene_picture(i % 5 + i / 5 * 8, i % 2 ? 0x38 : 0x10, i % 3 ? 0x1E : 0x18);
     }
-    part("six whole pictures with sprites: every line, its colours and its flags");
+    part("a whole picture with sprites on each board: every line, its colours and its flags");
     release(&m);
     release(&wanted);
     return verdict("tests/scenes");

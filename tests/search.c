@@ -324,7 +324,7 @@ static void set_scene(unsigned eighth)
 /* the line of two OAMs that differ in one byte, which only the search looks at: only status bit 5 differs */
 static void expect_same_picture(unsigned eighth, unsigned sprite)
 {
-    set_unit(&m, any(4), any(2) ? 0x38 : 0x10, 0x1E);
+    set_unit(&m, any(5), any(2) ? 0x38 : 0x10, 0x1E);
     set_line(&m, 100, any(512), any(480));
     set_scene(eighth);
     copy(&wanted, &m);
@@ -402,7 +402,7 @@ static void any_record(void)
     m.unit[PPU_AT_FINE_X] &= 7;
     m.unit[PPU_AT_W] &= 1;
     m.unit[PPU_AT_WARMED_UP] &= 1;
-    m.unit[PPU_AT_BOARD] &= 0x0B;
+    m.unit[PPU_AT_BOARD] = (uint8_t)(any(5) + 8 * any(2));
     set_word(m.unit, PPU_AT_NEXT_LINE, any(262));
 }
 
@@ -457,20 +457,19 @@ static void every_line(void)
     part("every line of 16 bits: refused 5 from 240");
 }
 
-/* what can be wrong, in the order of the checks: the line, a length, the record, which keeps as many of its bytes as there is room for */
-static void together(unsigned set, unsigned line, int which, size_t length, int field)
+/* a search with each thing of the set wrong: its line, the record by its length and by its bytes, OAM */
+static void together(unsigned set, unsigned line, size_t off, int field)
 {
-    uint8_t record[16];
     at = (long)(1000 * set + line);
     renew(&m, 5, 0x18, 100);
-    if (set & 4)
+    if (set >> MEMORY & 1)
+        lend_filled(&m, OAM, 256 + off);
+    if (set >> MALFORMED & 1)
         m.unit[field] = 0xFF;
-    memcpy(record, m.unit, 16);
-    if (set & 2)
-        lend(&m, which, length);
-    memcpy(m.unit, record, m.length[UNIT] < 16 ? m.length[UNIT] : 16);
+    if (set >> RECORD & 1)
+        lend_filled(&m, UNIT, 16 + off);
     copy(&wanted, &m);
-    EXPECT(search_on(&m, set & 1 ? line : line % 240), set & 1 ? PPU_BAD_REQUEST : set & 2 ? PPU_BAD_LENGTH : PPU_BAD_UNIT);
+    EXPECT(search_on(&m, set >> REQUEST & 1 ? line : line % 240), number_for(set));
     EXPECT_SAME(&m, &wanted);
 }
 
@@ -479,13 +478,11 @@ static void order(void)
     static const unsigned lines[] = { 240, 241, 255, 256, 261, 262, 495, 32768, 65535 };
     static const int fields[] = { PPU_AT_STATUS, PPU_AT_V + 1, PPU_AT_FINE_X, PPU_AT_NEXT_LINE + 1, PPU_AT_BOARD };
     static const size_t off[] = { 1, (size_t)-1, 256, 65536 };
-    for (unsigned set = 1; set < 8; set++)
+    for (unsigned set = 1; set < 1u << OUTSIDE; set++)
         for (int i = 0; i < 9; i++)
-            for (int k = 0; k < 8; k++) {
-                int which = k % 2 ? OAM : UNIT;
-                together(set, lines[i], which, right_lengths[which] + off[k / 2], fields[(i + k) % 5]);
-            }
-    part("every set of things wrong at once: the first in the order 5, 2, 3, the answer its number, and nothing changes");
+            for (int k = 0; k < 4; k++)
+                together(set, lines[i], off[k], fields[(i + k) % 5]);
+    part("every set of things wrong at once: the first in the order 5, 2 for the record, 3, 2 for OAM, the answer its number, and nothing changes");
 }
 
 /* THE OTHER CALLS, where a search would look at nine sprites */

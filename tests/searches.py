@@ -3,9 +3,9 @@
 nothing but Python, and the search on each line by the words of document 02, request 2.
 
 searches.py figures           crowds whose searches are known: the rows, and the sum
-searches.py example           examples/picture.log
-searches.py crowds            random crowds that change within a picture, sprites of both heights, the picture off for some lines; prints how many
-                              lines, and how many of them set the bit
+searches.py example           examples/picture.log, and examples/pages.log on four pages
+searches.py crowds            random crowds that change within a picture, sprites of both heights, the picture off for some lines, under each board;
+                              prints how many lines, and how many of them set the bit
 searches.py captures LOGS RAW every picture of the logs LOGS/NAME.log, with the boards LOGS/NAME.board; and status bit 5 of each answer in RAW/NAME,
                               the emulator's, by the lines that ppu-search names; prints how many lines, how many of them set the bit, how many
                               answers, and how many of them have the bit
@@ -18,7 +18,7 @@ import subprocess
 import sys
 
 sys.dont_write_bytecode = True  # no folder beside the tests
-from pictures import HEIGHT, run, write
+from pictures import BOARDS, HEIGHT, run, write
 from texts import ROOT, Unit
 
 SPRITES, FOUND, BYTES = 64, 8, ("Y", "tile", "attribute", "X")
@@ -152,11 +152,13 @@ def figures():
 
 
 def example():
-    log = ROOT / "examples/picture.log"
-    unit = Sprites(9, log.read_bytes())
-    searched = [(picture["lines_searched"], picture["lines_set"]) for picture in unit.objects()]
-    need(searched == [(0, 0)] + [(HEIGHT, 0)] * 3, f"examples/picture.log: lines searched, and with the bit: {searched}")
-    same(unit, log)
+    """The sprites of pages.log are those of an OAM that is all zero, and are not shown."""
+    for name, board, wanted in ("picture", 9, [(0, 0)] + [(HEIGHT, 0)] * 3), ("pages", 12, [(0, 0)] * 2 + [(HEIGHT, 8)] * 221):
+        log = ROOT / f"examples/{name}.log"
+        unit = Sprites(board, log.read_bytes())
+        searched = [(picture["lines_searched"], picture["lines_set"]) for picture in unit.objects()]
+        need(searched == wanted, f"{log}: lines searched, and with the bit: {searched}")
+        same(unit, log, "--board", board)
 
 
 def crowd(chance):
@@ -192,11 +194,11 @@ def crowded(chance):
 
 def crowds():
     chance, sums, ways = random.Random(17), (0, 0), set()
-    for _ in range(12):
+    for board in (*BOARDS, 4, 12):
         log = run(262) + b"".join(crowded(chance) for _ in range(10)) + run(chance.randrange(HEIGHT))
         Path("crowds.log").write_bytes(log)
-        unit = Sprites(9, log)
-        sums = added(sums, same(unit, "crowds.log"))
+        unit = Sprites(board, log)
+        sums = added(sums, same(unit, "crowds.log", "--board", board))
         ways |= {(row.get("byte"), row["looked"] == SPRITES) for rows in unit.pictures for row in rows if row["looked"]}
     wanted = {(byte, looked) for byte in BYTES for looked in (False, True)} | {(None, True)}
     need(ways == wanted, f"the bit is set in these ways alone: {ways}")

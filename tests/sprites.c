@@ -20,7 +20,7 @@ static void begin(unsigned control, unsigned mask, int opaque)
     solid(1, 255, 3);
     store_tiles(&m);
     no_sprites(&m);
-    memset(m.nametables, opaque ? 255 : 254, 2048);
+    memset(m.nametables, opaque ? 255 : 254, m.length[NAMETABLES]);
     memset(m.nametables + 960, 0, 64);
     memset(m.nametables + 1984, 0, 64);
     set_unit(&m, 0, control, mask);

@@ -119,6 +119,7 @@ static void figures(void)
     EXPECT(PPU_ROWS_LENGTH, 30 * 32);
     EXPECT(PPU_NAMETABLE_PAGE_LENGTH, 30 * 32 + 64);
     EXPECT(2 * PPU_NAMETABLE_PAGE_LENGTH, PPU_NAMETABLE_LENGTH);
+    EXPECT(4 * PPU_NAMETABLE_PAGE_LENGTH, PPU_FOUR_PAGES_LENGTH);
     EXPECT(PPU_TABLE_LENGTH, 256);
     EXPECT(PPU_BAD_CHARACTER, 8);
     part("the header's figures");
@@ -426,20 +427,33 @@ static void page_back(void)
     part("pages under tables without doubles: rows, then the same page");
 }
 
-/* the n-th well-formed board: 0 to 3, 8 to 11 */
-static unsigned board_of(unsigned n) { return n / 4 * 8 + n % 4; }
+/* the n-th of the ten well-formed boards: 0 to 4, 8 to 12 */
+static unsigned board_of(unsigned n) { return n / 5 * 8 + n % 5; }
+
+/* documents 01 and 02, by wiring and quarter; the quarter is taken modulo 4 */
+static void pages_of_quarters(void)
+{
+    for (unsigned n = 0; n < 10; n++) {
+        uint8_t board = (uint8_t)board_of(n);
+        at = board;
+        EXPECT(ppu_nametable_length(board), n % 5 == 4 ? 4096 : 2048);
+        for (unsigned quarter = 0; quarter < 1024; quarter++)
+            EXPECT(ppu_quarter(board, quarter), 1024 * page_of(board, quarter % 4));
+    }
+    part("ppu_nametable_length of each board, and ppu_quarter's page of each quarter");
+}
 
 /* what port 7 stores at $2000 + 1024 x quarter + k is at ppu_quarter + k of nametable RAM; 4 to 7 are 0 to 3 again */
 static void quarters(void)
 {
     static const unsigned places_in[] = { 0, 1, 31, 32, 255, 256, 511, 512, 767, 768, 958, 959, 960, 961, 1000, 1022, 1023 };
-    uint8_t kept[2048];
-    for (unsigned n = 0; n < 64; n++) {
-        unsigned board = board_of(n % 8), quarter = n / 8;
+    uint8_t kept[PPU_FOUR_PAGES_LENGTH];
+    for (unsigned n = 0; n < 80; n++) {
+        unsigned board = board_of(n % 10), quarter = n / 10;
         scatter(&m, 31 + n);
         set_unit(&m, board, 0, 0);
         set_word(m.unit, PPU_AT_NEXT_LINE, 245);
-        memcpy(kept, m.nametables, 2048);
+        memcpy(kept, m.nametables, sizeof kept);
         for (unsigned i = 0; i < sizeof places_in / sizeof places_in[0]; i++) {
             unsigned address = 0x2000 + 1024 * (quarter % 4) + places_in[i];
             size_t place = ppu_quarter((uint8_t)board, quarter) + places_in[i];
@@ -448,7 +462,7 @@ static void quarters(void)
             EXPECT(write_at(&m, 0x2006, address / 256), 0);
             EXPECT(write_at(&m, 0x2006, address % 256), 0);
             EXPECT(write_at(&m, 0x2007, kept[place]), 0);
-            EXPECT_BYTES(m.nametables, kept, 2048);
+            EXPECT_BYTES(m.nametables, kept, sizeof kept);
         }
     }
     part("ppu_quarter under each board: where port 7 stores, tile and attribute bytes");
@@ -498,8 +512,8 @@ static void expect_shown(const uint8_t *shown, unsigned board, unsigned quarter)
 static void pictures(void)
 {
     uint8_t by_rows[960], whole[240 * 32];
-    for (unsigned n = 0; n < 32; n++) {
-        unsigned board = board_of(n % 8), quarter = n / 8;
+    for (unsigned n = 0; n < 40; n++) {
+        unsigned board = board_of(n % 10), quarter = n / 10;
         at = n;
         lend_all();
         scatter(&m, 500 + n);
@@ -537,6 +551,7 @@ int main(void)
     wrong_lengths();
     rows_back();
     page_back();
+    pages_of_quarters();
     quarters();
     pictures();
     for (int i = 0; i < LENT; i++) {

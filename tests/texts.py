@@ -2,12 +2,15 @@
 """Texts for tests/tools.sh, which has ppu-text on the path: nametable RAM worked out from a log's records by nothing but Python, and its text.
 
 texts.py example           examples/picture.log and .tbl are what picture.py writes, and the log's text has picture.py's words alone
+texts.py pages             examples/pages.log and .tbl are what pages.py writes; under each board each quarter's text, on four pages pages.py's map
 texts.py quarters          another text in each quarter, under each board: each quarter by --quarter and by control
 texts.py captures FOLDER   every screen of the logs NAME.log in FOLDER, with the boards NAME.board, as JSON; prints how many screens
 texts.py forms             a table as 256 bytes and as entries; plain lines against JSON, in all tables of characters that can be shown
-texts.py back              texts to pages, with attribute bytes and without; those pages written through port 7, and their texts again
+texts.py back              texts to pages, with attribute bytes and without; those pages written through port 7 into each quarter, under each board, and
+                           their texts again
 It writes its files into the present folder, and takes them away.
 """
+from itertools import product
 import json
 from pathlib import Path
 import random
@@ -17,10 +20,11 @@ import sys
 import tempfile
 
 sys.dont_write_bytecode = True  # no folder beside the tests
-from pictures import fill, run, write
+from pictures import BOARDS, fill, page_of, run, write
 
 ROOT = Path(__file__).resolve().parent.parent
 SHOWN = bytes(range(32, 127)) + bytes(range(160, 256))
+QUARTERS = (None, 0, 1, 2, 3)  # None: by control
 
 
 def need(holds, text):
@@ -28,15 +32,24 @@ def need(holds, text):
         sys.exit("texts.py: " + text)
 
 
-def page_of(board, quarter):
-    return (quarter // 2, quarter % 2, 0, 1)[board % 4]
+def known_of(script):
+    """What a script of examples/ knows; the log and the table there must be what it writes. A copy is run, since it writes them beside itself."""
+    sys.path.append(str(ROOT / "examples"))
+    with tempfile.TemporaryDirectory() as folder:
+        copy = Path(folder, script)
+        copy.write_bytes((ROOT / "examples" / script).read_bytes())
+        known = runpy.run_path(str(copy))
+        for suffix in (".log", ".tbl"):
+            name = copy.with_suffix(suffix).name
+            need(Path(folder, name).read_bytes() == (ROOT / "examples" / name).read_bytes(), f"examples/{name} is not what {script} writes")
+    return known
 
 
 class Unit:
     """Nametable RAM and control when each picture is whole. Nothing is drawn: v is unknown, None, after a line that draws."""
 
     def __init__(self, board, log):
-        self.board, self.ram, self.screens = board, bytearray(2048), []
+        self.board, self.ram, self.screens = board, bytearray(4096 if board % 8 == 4 else 2048), []
         self.control = self.mask = self.t = self.v = self.w = self.line = self.warm = 0
         for kind, high, low, byte in zip(log[::4], log[1::4], log[2::4], log[3::4]):
             number = 256 * high + low
@@ -117,7 +130,8 @@ def ppu_text(*words, data=b"", silent=True):
     return done.stdout
 
 
-def objects(*words):
+def objects(*words, quarter=None):
+    words = words if quarter is None else ("--quarter", quarter, *words)
     return [json.loads(line) for line in ppu_text("--json", *words, silent=False).decode("utf-8").splitlines()]
 
 
@@ -143,12 +157,7 @@ def tiles_of(table, text):
 
 
 def example():
-    with tempfile.TemporaryDirectory() as folder:
-        Path(folder, "picture.py").write_bytes((ROOT / "examples/picture.py").read_bytes())
-        known = runpy.run_path(str(Path(folder, "picture.py")))
-        for name in ("picture.log", "picture.tbl"):
-            need(Path(folder, name).read_bytes() == (ROOT / "examples" / name).read_bytes(), f"examples/{name} is not what picture.py writes")
-    table = bytearray(256)
+    known, table = known_of("picture.py"), bytearray(256)
     table[0] = 32
     for letter, tile in known["tiles"].items():
         table[tile] = ord(letter)
@@ -160,22 +169,36 @@ def example():
     need(ppu_text("--last", *files).decode() == "\n".join(wanted[-1]["rows"]) + "\n", "--last of examples/picture.log")
 
 
+def pages():
+    """Under a board with two pages, or one, the quarter that was filled last is the one whose map a page has."""
+    known, table, log = known_of("pages.py"), bytearray(256), ROOT / "examples/pages.log"
+    for shown, (tile, _) in known["TILES"].items():
+        table[tile] = ord(shown)
+    maps = ["".join(row[left:left + 32] + "\n" for row in known["rows"][top:top + 30]) for top, left in product((0, 30), (0, 32))]
+    need(len(set(maps)) == 4, "quarters with the same map")
+    for board in BOARDS:
+        files = ("--board", board, "--table", ROOT / "examples/pages.tbl", log)
+        need(objects(*files) == Unit(board, log.read_bytes()).objects(table), f"examples/pages.log: board {board}")
+        for quarter, last in enumerate(((1, 1, 3, 3), (2, 3, 2, 3), (3, 3, 3, 3), (3, 3, 3, 3), (0, 1, 2, 3))[board % 8]):
+            need(ppu_text("--last", "--quarter", quarter, *files).decode() == maps[last], f"examples/pages.log: board {board}: not the map, quarter {quarter}")
+
+
 def quarters():
     chance = random.Random(3)
     table = full_table(chance)
     Path("table").write_bytes(table)
-    pages = [bytes(chance.randrange(256) for _ in range(1024)) for _ in range(4)]
-    for board in (0, 1, 2, 3, 8, 9, 10, 11):
-        log = run(262) + b"".join(fill(0x2000 + 1024 * quarter, page) for quarter, page in enumerate(pages))
+    filled = [bytes(chance.randrange(256) for _ in range(1024)) for _ in range(4)]
+    for board in BOARDS:
+        log = run(262) + b"".join(fill(0x2000 + 1024 * quarter, page) for quarter, page in enumerate(filled))
         log += b"".join(write(0, control) + run(262) for control in (0, 0x81, 0x7E, 3, 2))
         Path("quarters.log").write_bytes(log)
         unit = Unit(board, log)
         rows = {str(unit.objects(table, quarter)[-1]["rows"]) for quarter in range(4)}
-        need(len(rows) == (2 if board % 4 < 2 else 1), "pages that are alike")
+        need(len(rows) == (2, 2, 1, 1, 4)[board % 8], "pages that are alike")
         need([screen["quarter"] for screen in unit.objects(table)] == [0, 0, 1, 2, 3, 2], "other quarters by control")
-        for quarter in (None, 0, 1, 2, 3):
-            words = () if quarter is None else ("--quarter", quarter)
-            need(objects("--board", board, "--table", "table", *words, "quarters.log") == unit.objects(table, quarter), f"board {board}, quarter {quarter}")
+        for quarter in QUARTERS:
+            given = objects("--board", board, "--table", "table", "quarters.log", quarter=quarter)
+            need(given == unit.objects(table, quarter), f"board {board}, quarter {quarter}")
     Path("table").unlink()
     Path("quarters.log").unlink()
 
@@ -186,10 +209,9 @@ def captures(folder):
         board, table = int(log.with_suffix(".board").read_text()), mixed_table(chance)
         Path("table").write_bytes(table)
         unit = Unit(board, log.read_bytes())
-        for quarter in (None, 0, 1, 2, 3):
+        for quarter in QUARTERS:
             wanted = unit.objects(table, quarter)
-            words = () if quarter is None else ("--quarter", quarter)
-            need(objects("--table", "table", "--board", board, *words, log) == wanted, f"{log}: other texts, quarter {quarter}")
+            need(objects("--table", "table", "--board", board, log, quarter=quarter) == wanted, f"{log}: other texts, quarter {quarter}")
             count += len(wanted)
     Path("table").unlink()
     print(count)
@@ -218,7 +240,7 @@ def forms():
 
 def back():
     chance = random.Random(11)
-    for quarter in range(4):
+    for board, quarter in product(BOARDS, range(4)):
         table = full_table(chance)
         Path("table").write_bytes(table)
         rows = [bytes(chance.choice(SHOWN) for _ in range(32)) for _ in range(30)]
@@ -231,7 +253,7 @@ def back():
         page = Path("onto").read_bytes()
         need(page == tiles + onto[960:], "a page with the attributes of another")
         log = run(262) + fill(0x2000 + 1024 * quarter, page) + write(0, quarter) + run(240)
-        need(ppu_text("--last", "--strict", "--table", "table", "-", data=log) == text, "the text of the page of a text")
+        need(ppu_text("--last", "--strict", "--board", board, "--table", "table", "-", data=log) == text, "the text of the page of a text")
         short = (rows[0], rows[1][:chance.randrange(32)], b"", rows[2][:chance.randrange(32)])
         text = b"\xEF\xBB\xBF" + "\r\n".join(row.decode("latin-1") for row in short).encode("utf-8")
         wanted = b"".join(row.ljust(32) for row in short).ljust(960)

@@ -60,6 +60,17 @@ refuses() { # STATUS PATTERN COMMAND..
     passed
 }
 
+# A command that takes a board byte takes no other than 0 to 4 and 8 to 12.
+refuses_boards() { # COMMAND..
+    local board
+    for board in 5 6 7 13 14 15 16 20 128 255; do
+        refuses 2 "^$1: --board $board: (refused 3: )?not a board byte, 0 to 4 or 8 to 12 is\$" "$@" --board "$board"
+    done
+    for board in -1 256 x ''; do
+        refuses 2 "^$1: --board $board: not a number from 0 to 255" "$@" --board "$board"
+    done
+}
+
 text() { printf '%s\n' "$@"; }
 
 # a log of these records
@@ -106,6 +117,33 @@ log_round_trips() {
     echo "  ppu-log: $count logs to text and back, the captures and random bytes among them; the answers are the player's"
 }
 
+# Each quarter's first byte written, then read by port 7: what --answers says of it under each board, with the pages that its wiring gives.
+log_boards() {
+    local quarter wiring board bytes
+    for quarter in 20 24 28 2C; do
+        text "W 2006 $quarter" 'W 2006 00' "W 2007 $quarter"
+    done >quarters
+    for quarter in 20 24 28 2C; do
+        text "W 2006 $quarter" 'W 2006 00' 'R 2007' 'R 2007'
+    done >>quarters
+    { text 'RUN 262' && cat quarters; } | ppu-log make -o quarters.log
+    while read -r wiring bytes; do
+        for board in "$wiring" $((wiring + 8)); do
+            ppu-log show --answers --board "$board" quarters.log | sed -n 's/^R 2007  # //p' | sed -n 'n;p' | xargs >shown
+            text "$bytes" >expected
+            same "the first byte of each quarter under board $board" shown expected
+        done
+    done <<'BOARDS'
+0 24 24 2C 2C
+1 28 2C 28 2C
+2 2C 2C 2C 2C
+3 2C 2C 2C 2C
+4 20 24 28 2C
+BOARDS
+    rm quarters quarters.log shown expected
+    echo "  ppu-log: the answers under each board"
+}
+
 # The captures as they are and as the player takes them; byte strings of every length to 12 and longer ones, kinds mostly known.
 make_logs() {
     mkdir captured raw
@@ -133,7 +171,7 @@ log_errors() {
     refuses 2 'ppu-log: --colour: no such option' ppu-log show --colour
     refuses 2 'ppu-log: -o: an argument is missing' ppu-log show -o
     refuses 2 'ppu-log: --answers: only with show' ppu-log make --answers
-    refuses 2 'ppu-log: --board 4: not a board byte' ppu-log show --answers --board 4
+    refuses_boards ppu-log show --answers
     refuses 2 'ppu-log: b: one file at a time' ppu-log show a b
     refuses 3 'ppu-log: nowhere: No such file' ppu-log show nowhere
     refuses 3 'ppu-log: captured: a folder' ppu-log make captured
@@ -200,12 +238,14 @@ says() { # STATUS FILE COMMAND..
 text_screens() {
     local count
     texts example
+    texts pages
     texts quarters
     texts forms
     texts back
     count=$(texts captures captured)
     passed "$count"
-    echo "  ppu-text: $count screens of the captures; all quarters under all boards; both forms of a table, lines and JSON; texts to pages and back"
+    echo "  ppu-text: $count screens of the captures; all quarters under all boards, four pages too; both forms of a table, lines and JSON; texts to" \
+        "pages and back"
 }
 
 text_options() {
@@ -445,7 +485,7 @@ text_errors() {
     refuses 2 'ppu-text: --quarter -1: not a number from 0 to 3' ppu-text --table "$table" --quarter -1 "$log"
     refuses 2 'ppu-text: --every 0: not a number' ppu-text --table "$table" --every 0 "$log"
     refuses 2 'ppu-text: --every and --last' ppu-text --table "$table" --every 2 --last "$log"
-    refuses 2 'ppu-text: --board 12: refused 3: ' ppu-text --table "$table" --board 12 "$log"
+    refuses_boards ppu-text --table "$table" "$log"
     refuses 2 'ppu-text: --output: the name is empty' ppu-text --table "$table" -o '' "$log"
     refuses 2 'ppu-text: standard input can be only one of the files' ppu-text --table - -
     refuses 3 'ppu-text: nowhere.log: No such file' ppu-text --table "$table" nowhere.log -o shown
@@ -472,7 +512,7 @@ search_pictures() {
     read -r lines set <<<"$said"
     [ "$set" -gt 500 ] || fail "of $lines lines of crowds only $set set the bit"
     passed "$lines"
-    echo "  ppu-search: $lines lines of random crowds, $set of them set the bit"
+    echo "  ppu-search: $lines lines of random crowds, under each board, $set of them set the bit"
     said=$(searches captures captured raw)
     read -r lines set answers bits <<<"$said"
     { [ "$set" -gt 500 ] && [ "$bits" -gt 100 ]; } || fail "of $lines lines of the captures $set set the bit, of $answers answers $bits have it"
@@ -527,7 +567,7 @@ search_errors() {
     refuses 2 'ppu-search: --every: an argument is missing' ppu-search "$log" --every
     refuses 2 'ppu-search: --every 0: not a number' ppu-search --every 0 "$log"
     refuses 2 'ppu-search: --every and --last' ppu-search --every 2 --last "$log"
-    refuses 2 'ppu-search: --board 12: refused 3: ' ppu-search --board 12 "$log"
+    refuses_boards ppu-search "$log"
     refuses 2 'ppu-search: --output: the name is empty' ppu-search -o '' "$log"
     refuses 3 'ppu-search: nowhere.log: No such file' ppu-search -o shown nowhere.log
     refuses 3 'ppu-search: captured: a folder' ppu-search captured
@@ -573,8 +613,7 @@ picture_options() {
     [ "$(echo ./*.png)" = "./picture-0001.png ./picture-0002.png ./picture-0003.png ./picture-0004.png" ] || fail "not four pictures: $(echo ./*.png)"
     [ "$(stat -c %a picture-0001.png)" = "$(printf '%o' $((0666 & ~$(umask))))" ] || fail "picture-0001.png has mode $(stat -c %a picture-0001.png)"
     ppu-picture --grey -o grey "$log"
-    pictures drawn "$log" grey/picture-0003.png
-    pictures drawn "$log" grey/picture-0004.png
+    pictures drawn 9 "$log" grey/picture-000[134].png
     pictures coloured "$root/examples/2c02.pal" "$log" grey/picture-0004.png picture-0004.png
     ppu-picture --last -o last.png "$log"
     same "--last -o FILE.png" last.png picture-0004.png
@@ -597,6 +636,24 @@ picture_options() {
     [ "$(ppu-picture --summary -o folder "$log")" = "pictures 4 of 4, records $(($(stat -c %s "$log") / 4)), refused 1:0 2:0 3:0 4:0 5:0" ] || fail "--summary"
     rm -r folder grey ./*.png emphasised.log
     echo "  ppu-picture: names, --last, --every, --scale, --grey, --summary, standard input and output"
+}
+
+# The scroll over four pages, under each board: all pictures against those worked out, and the last in its colours.
+picture_boards() {
+    local log=$root/examples/pages.log board count
+    for board in 0 1 2 3 4 8 9 10 11 12; do
+        ppu-picture --strict --board "$board" --grey -o "board$board" "$log"
+        pictures drawn "$board" "$log" "board$board"/*.png
+    done
+    count=$(find board12 -name '*.png' | wc -l)
+    [ "$count" -gt 200 ] || fail "examples/pages.log: $count pictures"
+    ppu-picture --board 12 --last -o last.png "$log"
+    pictures coloured "$root/examples/2c02.pal" "$log" "board12/pages-0$count.png" last.png
+    ppu-batch --board 12 --last drawn "$log" >sum
+    same "--board in a batch" "drawn/pages/pages-0$count.png" last.png
+    passed $((10 * count))
+    rm -r board* drawn sum last.png
+    echo "  ppu-picture: the $count pictures of examples/pages.log, which scrolls over four pages, under each board"
 }
 
 # All 512 finished colours, in palettes of both lengths: one of 64 colours gives the pictures of the 512 that tests/pictures.py makes of it. Those
@@ -728,7 +785,7 @@ picture_errors() {
     refuses 2 'ppu-picture: --every and --last' ppu-picture --every 2 --last "$log"
     refuses 2 'ppu-picture: --grey and --palette' ppu-picture --grey --palette some.pal "$log"
     refuses 2 'ppu-picture: --grey=1: takes no argument' ppu-picture --grey=1 "$log"
-    refuses 2 'ppu-picture: --board 12: refused 3: ' ppu-picture --board 12 "$log"
+    refuses_boards ppu-picture "$log"
     refuses 2 'ppu-picture: --output -: only with --last' ppu-picture -o - "$log"
     refuses 3 'ppu-picture: nowhere.log: No such file' ppu-picture nowhere.log
     refuses 3 'ppu-picture: captured: a folder' ppu-picture captured
@@ -878,6 +935,7 @@ batch_errors() {
     refuses 2 'ppu-batch: --colour: no such option' ppu-batch --colour drawn "$log"
     refuses 2 'ppu-batch: --scale: an argument is missing' ppu-batch drawn "$log" --scale
     refuses 2 'ppu-batch: --scale 99: not a number' ppu-batch --scale=99 drawn "$log"
+    refuses_boards ppu-batch drawn "$log"
     refuses 2 'ppu-batch: --jobs 0: not a number' ppu-batch -j 0 drawn "$log"
     for share in 0/2 3/2 1 x/y; do
         refuses 2 "ppu-batch: --share $share: not K/N" ppu-batch --share "$share" drawn "$log"
@@ -926,6 +984,19 @@ numbers() { # COMMAND..
     rm numbers.*
 }
 
+# What --help says of the boards.
+boards() { # COMMAND..
+    local name
+    for name in "$@"; do
+        "$name" --help | tr -s ' \n' ' ' >help
+        grep -q -- '--board N .*board byte, 0 to 4 or 8 to 12' help || fail "$name --help: other board bytes"
+        [ "$name" = ppu-log ] || grep -q '4 four pages (each quarter its own page, 4096 bytes of nametable RAM)' help ||
+            fail "$name --help: not what wiring 4 is"
+        passed
+    done
+    rm help
+}
+
 # In the source tree the commands build themselves; --help and --version of each.
 from_the_tree() {
     local name
@@ -950,7 +1021,7 @@ readme() {
         grep -Fxq -- "${line#    }" printed || fail "tools/README.md: nothing printed $line"
         printed=$((printed + 1))
     done < <(grep -E '^    (R|W|RUN|logs|pictures|refused|  ) |searched: bit set on none$' "$root/tools/README.md")
-    { [ "$commands" -eq 17 ] && [ "$printed" -eq 15 ]; } || fail "tools/README.md: $commands commands and $printed lines they print"
+    { [ "$commands" -eq 19 ] && [ "$printed" -eq 15 ]; } || fail "tools/README.md: $commands commands and $printed lines they print"
     passed 2
     rm -r readme commands printed
 }
@@ -969,6 +1040,7 @@ cd "$work"
 make_logs
 log_text
 log_round_trips
+log_boards
 log_errors
 interrupted /dev/null ppu-log show slow.log -o shown
 for part in text_screens text_options text_strict text_many text_table_errors text_tile_errors text_value_errors text_table_characters \
@@ -985,17 +1057,19 @@ echo "  ppu-search: options, reports and statuses; logs and files that cannot be
 builds
 from_the_tree ppu-log ppu-text ppu-search
 numbers ppu-text ppu-search
+boards ppu-log ppu-text ppu-search
 if [ "$no_libpng" -eq 0 ]; then
     mkdir palettes
     pictures palettes palettes
-    for part in picture_captures picture_options picture_palettes picture_lines picture_runs picture_refusals picture_bad_record picture_errors \
-        picture_full_disk batch_runs batch_shares batch_failures batch_errors; do
+    for part in picture_captures picture_options picture_boards picture_palettes picture_lines picture_runs picture_refusals picture_bad_record \
+        picture_errors picture_full_disk batch_runs batch_shares batch_failures batch_errors; do
         $part
     done
     batch_interrupted TERM
     batch_interrupted KILL
     from_the_tree ppu-picture ppu-batch
     numbers ppu-text ppu-picture
+    boards ppu-picture
     readme
     echo "  ppu-batch: passing over, other options, shares, failures, interruptions; the commands of tools/README.md"
 else

@@ -29,7 +29,7 @@ static const char help[] =
     "\n"
     "      --answers      with show: the answer of each record behind it, as a comment, in the player's own words: the byte\n"
     "                     read, \"line N nmi B\" for a run, \"refused N\"; nothing after a \"refused 5\", where the player ends\n"
-    "      --board N      with --answers: the board byte, 0 to 3 or 8 to 11 (default 9)\n"
+    "      --board N      with --answers: the board byte, " BOARD_BYTES " (default 9); ppu-picture --help explains it\n"
     "  -o, --output FILE  into this file, which is replaced as a whole or not at all (default: standard output)\n"
     "  -h, --help         this text\n"
     "  -V, --version      the version\n"
@@ -83,7 +83,7 @@ static void show(FILE *in, FILE *out, const Options *options)
     Record record = { .number = 0 };
     int playing = options->answers;
     if (start(&machine, options->board))
-        give_up(BAD_USAGE, "--board %u: not a board byte, 0 to 3 or 8 to 11 is", options->board);
+        give_up(BAD_USAGE, "--board %u: not a board byte, " BOARD_BYTES " is", options->board);
     while (next_record(in, &record)) {
         print_record(out, &record, &machine);
         if (playing) {

@@ -22,11 +22,13 @@ unsigned middle(const Record *record) { return record->bytes[1] * 256u + record-
 
 unsigned next_line(const Machine *machine) { return machine->unit[PPU_AT_NEXT_LINE] + 256u * machine->unit[PPU_AT_NEXT_LINE + 1]; }
 
+size_t nametables_length(const Machine *machine) { return ppu_nametable_length(machine->unit[PPU_AT_BOARD]); }
+
 /* unit_length is the unit's, or 0 to play nothing */
 static uint64_t call(Machine *m, size_t unit_length, const Record *record)
 {
     return ppu_play(m->unit, unit_length, record->bytes, record->length, m->left, sizeof m->left, m->right, sizeof m->right, m->nametables,
-                    sizeof m->nametables, m->oam, sizeof m->oam, m->palette, sizeof m->palette, m->line, sizeof m->line, m->colours,
+                    nametables_length(m), m->oam, sizeof m->oam, m->palette, sizeof m->palette, m->line, sizeof m->line, m->colours,
                     sizeof m->colours);
 }
 
@@ -47,7 +49,7 @@ static void run_again(Machine *m, const uint8_t *before, uint32_t lines)
     for (; lines; lines--) {
         unsigned line = next_line(m);
         ppu_run(m->unit, sizeof m->unit, 1, PPU_RUN_ALL, m->left, sizeof m->left, m->right, sizeof m->right, m->nametables,
-                sizeof m->nametables, m->oam, sizeof m->oam, m->palette, sizeof m->palette, m->line, sizeof m->line, m->colours,
+                nametables_length(m), m->oam, sizeof m->oam, m->palette, sizeof m->palette, m->line, sizeof m->line, m->colours,
                 sizeof m->colours);
         hand_on(m, line);
     }

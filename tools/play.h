@@ -7,6 +7,7 @@
 
 #define REFUSALS 6 /* numbers 0 to 5 */
 #define PICTURE_LINES 240
+#define BOARD_BYTES "0 to 4 or 8 to 12" /* in messages: those that start takes */
 
 enum { READ, WRITE, RUN }; /* kinds, for the text of a record; the library plays it */
 
@@ -22,8 +23,9 @@ typedef struct Machine Machine;
 /* called after each of lines 0 to 239 that a record runs */
 typedef void Drawn(void *context, const Machine *machine, unsigned line);
 
+/* nametables has room for any board: nametables_length says how much of it this board has */
 struct Machine {
-    uint8_t unit[PPU_RECORD_LENGTH], left[PPU_PATTERN_LENGTH], right[PPU_PATTERN_LENGTH], nametables[PPU_NAMETABLE_LENGTH],
+    uint8_t unit[PPU_RECORD_LENGTH], left[PPU_PATTERN_LENGTH], right[PPU_PATTERN_LENGTH], nametables[PPU_FOUR_PAGES_LENGTH],
         oam[PPU_OAM_LENGTH], palette[PPU_PALETTE_LENGTH], line[PPU_LINE_LENGTH], colours[PPU_COLOURS_LENGTH];
     Drawn *drawn; /* NULL: nobody looks */
     void *context;
@@ -46,6 +48,9 @@ uint64_t play(Machine *machine, const Record *record);
 
 /* The line that comes next. */
 unsigned next_line(const Machine *machine);
+
+/* How much of its nametable RAM is lent to a call. */
+size_t nametables_length(const Machine *machine);
 
 /* Says in words why a record was refused with this number. */
 void explain(char *text, size_t size, const Record *record, unsigned number);

@@ -81,7 +81,7 @@ void play_log(Playing *playing, Drawn *drawn)
     struct stat status;
     unsigned number = 0;
     if (start(&machine, playing->board) == PPU_BAD_UNIT)
-        give_up(BAD_USAGE, "--board %u: refused 3: not a board byte, 0 to 3 or 8 to 11 is", playing->board);
+        give_up(BAD_USAGE, "--board %u: refused 3: not a board byte, " BOARD_BYTES " is", playing->board);
     FILE *log = open_input(playing->log);
     playing->size = fstat(fileno(log), &status) == 0 && S_ISREG(status.st_mode) ? (long long)status.st_size : -1;
     while (number != PPU_BAD_REQUEST && next_record(log, &playing->record)) {

@@ -12,8 +12,9 @@
     "      --every N       only pictures N, 2N, 3N, ...\n" \
     "      --last          only the last whole picture\n"
 #define HELP_BOARD \
-    "      --board N       board byte: wiring 0 horizontal, 1 vertical, 2 first page, 3 second page, and 8 more if pattern\n" \
-    "                      memory can be written (default 9)\n"
+    "      --board N       board byte, " BOARD_BYTES ": wiring 0 horizontal, 1 vertical, 2 first page, 3 second page, 4 four\n" \
+    "                      pages (each quarter its own page, 4096 bytes of nametable RAM), and 8 more if pattern memory can be\n" \
+    "                      written (default 9)\n"
 
 /* Those that say what each number of a refusal means. */
 #define HELP_NUMBERS \

@@ -99,7 +99,7 @@ static int sets_bit(const Machine *m, unsigned line)
     unit[PPU_AT_STATUS] = 0;
     unit[PPU_AT_NEXT_LINE] = (uint8_t)line;
     unit[PPU_AT_NEXT_LINE + 1] = 0;
-    ppu_run(unit, sizeof unit, 1, PPU_RUN_ALL, m->left, sizeof m->left, m->right, sizeof m->right, m->nametables, sizeof m->nametables,
+    ppu_run(unit, sizeof unit, 1, PPU_RUN_ALL, m->left, sizeof m->left, m->right, sizeof m->right, m->nametables, nametables_length(m),
             m->oam, sizeof m->oam, m->palette, sizeof m->palette, numbers, sizeof numbers, colours, sizeof colours);
     return (unit[PPU_AT_STATUS] & STATUS_OVERFLOW) != 0;
 }

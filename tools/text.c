@@ -32,8 +32,8 @@ static const char help[] =
     "\n"
     "Which screens\n"
     HELP_WHICH
-    "      --quarter N     quarter 0 to 3: the nametable at $2000, $2400, $2800 or $2C00 (default: the one that control's low\n"
-    "                      two bits name when line 239 was drawn)\n"
+    "      --quarter N     quarter 0 to 3: the page that the board's wiring gives the nametable at $2000, $2400, $2800 or $2C00\n"
+    "                      (default: the quarter that control's low two bits name when line 239 was drawn)\n"
     "\n"
     "How they are written\n"
     "                      As 30 lines of 32 characters; before each screen a line \"picture 3, quarter 0\", but not with --last,\n"

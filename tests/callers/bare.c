@@ -49,10 +49,13 @@ uint64_t __muldi3(uint64_t a, uint64_t b)
     return product;
 }
 
-static uint8_t unit[PPU_RECORD_LENGTH], left[PPU_PATTERN_LENGTH], right[PPU_PATTERN_LENGTH], nametables[PPU_NAMETABLE_LENGTH];
+static uint8_t unit[PPU_RECORD_LENGTH], left[PPU_PATTERN_LENGTH], right[PPU_PATTERN_LENGTH], nametables[PPU_FOUR_PAGES_LENGTH];
 static uint8_t oam[PPU_OAM_LENGTH], palette[PPU_PALETTE_LENGTH], page[PPU_PAGE_LENGTH], line[PPU_LINE_LENGTH], colours[PPU_COLOURS_LENGTH];
 static uint8_t table[PPU_TABLE_LENGTH], rows[PPU_ROWS_LENGTH];
 static uint64_t state, sum, calls, lines;
+
+/* nametable RAM as the unit's board has it */
+#define NAMETABLES nametables, ppu_nametable_length(unit[PPU_AT_BOARD])
 
 static unsigned any(void)
 {
@@ -85,7 +88,7 @@ static uint64_t play(void)
     record[1] = record[0] == 2 ? 0 : 0x20;
     if (record[0] != 1)
         record[3] = 0;
-    return ppu_play(unit, sizeof unit, record, sizeof record, left, sizeof left, right, sizeof right, nametables, sizeof nametables, oam, sizeof oam,
+    return ppu_play(unit, sizeof unit, record, sizeof record, left, sizeof left, right, sizeof right, NAMETABLES, oam, sizeof oam,
                     palette, sizeof palette, line, sizeof line, colours, sizeof colours);
 }
 
@@ -94,11 +97,11 @@ static uint64_t one_call(void)
     unsigned kind = any() & 7, number = any(), byte = any() & 255;
     unsigned address = 0x2000 + (number & 7);
     if (kind < 2)
-        return ppu_read(unit, sizeof unit, (uint16_t)address, left, sizeof left, right, sizeof right, nametables, sizeof nametables, oam, sizeof oam,
+        return ppu_read(unit, sizeof unit, (uint16_t)address, left, sizeof left, right, sizeof right, NAMETABLES, oam, sizeof oam,
                         palette, sizeof palette);
     if (kind < 4) /* the mask shows something more often than not */
         return ppu_write(unit, sizeof unit, (uint16_t)address, (uint8_t)(address == 0x2001 ? byte | 0x1E : byte), left, sizeof left, right,
-                         sizeof right, nametables, sizeof nametables, oam, sizeof oam, palette, sizeof palette);
+                         sizeof right, NAMETABLES, oam, sizeof oam, palette, sizeof palette);
     if (kind == 4) {
         for (size_t i = 0; i < sizeof page; i++) /* sprites stand close together, so that lines have nine and more */
             page[i] = (uint8_t)(any() & (i & 3 ? 255 : 63));
@@ -109,7 +112,7 @@ static uint64_t one_call(void)
     if (kind == 6)
         return play();
     return ppu_run(unit, sizeof unit, (uint16_t)(number & 1 ? 1 : number >> 8), (uint8_t)(byte & 3), left, sizeof left, right, sizeof right,
-                   nametables, sizeof nametables, oam, sizeof oam, palette, sizeof palette, line, sizeof line, colours, sizeof colours);
+                   NAMETABLES, oam, sizeof oam, palette, sizeof palette, line, sizeof line, colours, sizeof colours);
 }
 
 static void text(void)
@@ -125,9 +128,10 @@ static void scatter_all(unsigned seed)
     state = 88172645463325252u + seed;
     scatter(left, sizeof left);
     scatter(right, sizeof right);
-    scatter(nametables, sizeof nametables);
+    scatter(nametables, PPU_NAMETABLE_LENGTH);
     scatter(oam, sizeof oam);
     scatter(palette, sizeof palette);
+    scatter(nametables + PPU_NAMETABLE_LENGTH, sizeof nametables - PPU_NAMETABLE_LENGTH); /* last: the lines that are counted have two pages */
 }
 
 #ifdef BARE_LINES
@@ -139,7 +143,7 @@ static void some_lines(void)
     ppu_fresh(unit, sizeof unit, PPU_VERTICAL);
     unit[PPU_AT_MASK] = BARE_MASK;
     unit[PPU_AT_NEXT_LINE] = 1;
-    ppu_run(unit, sizeof unit, BARE_LINES, PPU_RUN_ALL, left, sizeof left, right, sizeof right, nametables, sizeof nametables, oam, sizeof oam, palette,
+    ppu_run(unit, sizeof unit, BARE_LINES, PPU_RUN_ALL, left, sizeof left, right, sizeof right, NAMETABLES, oam, sizeof oam, palette,
             sizeof palette, line, sizeof line, colours, sizeof colours);
     ask(END, 0, NULL, 0);
 }

@@ -4,13 +4,15 @@
                                     be touched; at its back, likewise; or within, with guard bytes on both sides
        lengths ROUNDS SEED heap     slices in blocks of exactly their length, for valgrind and AddressSanitizer
 
-   A call with a wrong length must answer 2 and change nothing; one with the right lengths must not answer 2; what is
-   lent to be looked at is never changed. A log without a whole and good record at its front must answer 5; with one, the
-   lengths that count are those of the call that the record stands for. A search on a line above 239 must answer 5, whatever
-   the lengths; one that is done looks at 9 to 64 sprites, and no other call says that it looked at any. A run with a
-   reason to stop above 2 must answer 5, whatever the lengths; only one with reason 1 or 2 says that it met its reason.
-   Rows of the right length with a character that is 0 or has no tile must answer 8. With REACH_READ or REACH_WRITE the
-   test itself goes one byte beyond a slice, as a faulty library would, to show that this is noticed. */
+   A call must answer the number that is due by the lengths, the record and its board, and its own arguments, in the order 5, 2
+   for the record, 3, 2 for memory, 1, 4; nametable RAM is due at 4096 bytes on a board with four pages, at 2048 on another.
+   A refused call changes nothing, and what is lent to be looked at is never changed. A log without a whole and good record
+   at its front must answer 5; with one, the lengths that count are those of the call that the record stands for. A search on
+   a line above 239 must answer 5, whatever the lengths; one that is done looks at 9 to 64 sprites, and no other call says
+   that it looked at any. A run with a reason to stop above 2 must answer 5, whatever the lengths; only one with reason 1 or
+   2 says that it met its reason. Rows of the right length with a character that is 0 or has no tile must answer 8. With
+   REACH_READ or REACH_WRITE the test itself goes one byte beyond a slice, as a faulty library would, to show that this is
+   noticed. */
 #define _DEFAULT_SOURCE
 #include <stdio.h>
 #include <stdlib.h>
@@ -23,7 +25,9 @@ enum { UNIT, LEFT, RIGHT, NAMETABLES, OAM, PALETTE, LINE, COLOURS, PAGE, LOG, SH
 enum { FRESH, READ, WRITE, DMA, SEARCH, TEXT, TEXT_PAGE, RUN, TO_NMI, TO_HIT, PLAY, KINDS };
 enum { LONGEST = 5000, ROOM = 8192, BARRIER = 4096, NUMBERS = 9 };
 
-static const size_t right_length[MEMORIES] = {16, 4096, 4096, 2048, 256, 32, 256, 512, 256, 4, 1024, 256, 960};
+/* Of nametable RAM that of a board with two pages. */
+enum { TWO_PAGES = 2048, FOUR_PAGES = 4096 };
+static const size_t right_length[MEMORIES] = {16, 4096, 4096, TWO_PAGES, 256, 32, 256, 512, 256, 4, 1024, 256, 960};
 static const char *const kind_name[KINDS] = {"fresh", "read", "write", "dma", "search", "text",
                                              "page", "run", "to NMI", "to hit", "play"};
 
@@ -39,10 +43,12 @@ static struct memory {
 } memory[MEMORIES];
 
 static int in_pages, failed;
-static long met[KINDS]; /* the runs that met their reason */
+static long met[KINDS];           /* the runs that met their reason */
+static long on_four_pages[KINDS]; /* the calls done on boards with four pages */
 static uint64_t state;
-static uint16_t searched; /* the line of a search */
-static uint8_t reason;    /* of a run */
+static uint16_t address, searched; /* of an access; the line of a search */
+static uint8_t byte, reason;       /* of a write or a fresh unit's board; of a run */
+static uint8_t board;              /* of a record that is made well formed */
 
 static uint64_t next_random(void)
 {
@@ -104,7 +110,7 @@ static void keep(struct memory *m)
     memcpy(m->before, m->room, room_size(m));
 }
 
-/* Makes a record of 16 bytes or more well formed, at a random line, now and then with v in the palette. */
+/* Makes a record of 16 bytes or more well formed, at a random line, now and then with v in the palette or with any board byte. */
 static void make_well_formed(uint8_t *unit)
 {
     size_t line = below(262);
@@ -117,7 +123,7 @@ static void make_well_formed(uint8_t *unit)
     unit[12] = (uint8_t)line;
     unit[13] = (uint8_t)(line >> 8);
     unit[14] &= 1;
-    unit[15] &= 0x0B;
+    unit[15] = below(16) ? board : (uint8_t)next_random();
 }
 
 /* In half of the rounds brings bytes in range of the line that is searched, so that eight are found and the bit is set. */
@@ -140,6 +146,12 @@ static void make_record(uint8_t *log, size_t length)
     } else if (below(8) == 0)
         record[1] = (uint8_t)next_random();
     memcpy(log, record, length < 4 ? length : 4);
+}
+
+/* How long a memory has to be for a unit of this board. */
+static size_t right_for(int m, unsigned of_board)
+{
+    return m == NAMETABLES && of_board % 8 == 4 ? FOUR_PAGES : right_length[m];
 }
 
 /* Mostly makes rows of the table's characters; now and then one is at fault, or a tile loses its character. */
@@ -176,33 +188,36 @@ static int played(const struct memory *log)
     return log->at[0] == 0 ? READ : log->at[0] == 1 ? WRITE : RUN;
 }
 
-/* Lengths: all right; one off by one; one of any length; all of any length. A log is often short. */
+/* Lengths: one off by one; one of any length; all of any length, but half of the records right; else all right for the board.
+   A log is often short; nametable RAM often has what some board has. */
 static void choose_lengths(int kind, size_t *length)
 {
-    size_t style = below(4);
+    size_t style = below(5);
     size_t odd;
     do
         odd = below(MEMORIES);
     while (!(lent[kind] >> odd & 1));
     for (int m = 0; m < MEMORIES; m++)
-        length[m] = style == 3 ? below(LONGEST + 1) : right_length[m];
+        length[m] = style == 3 ? below(LONGEST + 1) : right_for(m, board);
     if (style == 1)
         length[odd] += below(2) ? 1 : (size_t)-1;
     if (style == 2)
         length[odd] = below(LONGEST + 1);
+    if (style == 3 && below(2))
+        length[UNIT] = right_length[UNIT];
     if (style != 1 && below(4) == 0)
         length[LOG] = below(9); /* about the length of a record */
+    if (style != 1 && below(4) == 0)
+        length[NAMETABLES] = below(2) ? TWO_PAGES : FOUR_PAGES;
 }
 
 #define SLICE(m) memory[m].at, memory[m].length
 
 static uint64_t call(int kind)
 {
-    uint16_t address = (uint16_t)(below(8) ? 0x2000 + below(0x2000) : next_random());
-    uint8_t byte = (uint8_t)next_random();
     switch (kind) {
     case FRESH:
-        return ppu_fresh(SLICE(UNIT), byte & 0x1F);
+        return ppu_fresh(SLICE(UNIT), byte);
     case READ:
         return ppu_read(SLICE(UNIT), address, SLICE(LEFT), SLICE(RIGHT), SLICE(NAMETABLES), SLICE(OAM), SLICE(PALETTE));
     case WRITE:
@@ -263,6 +278,7 @@ static int is_run(int kind)
 static void prepare(int kind)
 {
     size_t length[MEMORIES];
+    board = (uint8_t)((below(2) ? 4 : below(4)) + 8 * below(2));
     choose_lengths(kind, length);
     for (int m = 0; m < MEMORIES; m++) {
         place(&memory[m], length[m]);
@@ -270,6 +286,8 @@ static void prepare(int kind)
     }
     if (length[UNIT] >= 16 && below(4))
         make_well_formed(memory[UNIT].at);
+    address = (uint16_t)(below(8) ? 0x2000 + below(0x2000) : next_random());
+    byte = (uint8_t)(kind != FRESH ? next_random() : below(2) ? board : below(32));
     searched = (uint16_t)(below(4) ? below(240) : below(2) ? 238 + below(4) : next_random());
     if (is_run(kind))
         reason = (uint8_t)(below(8) ? (size_t)(kind - RUN) : 3 + below(253));
@@ -293,23 +311,73 @@ static int is_unknown(int kind)
            (is_run(kind) && reason > PPU_UNTIL_HIT);
 }
 
+/* A board byte: a wiring from 0 to 4, and bit 3. */
+static int is_board(unsigned of_board)
+{
+    return of_board < 16 && of_board % 8 <= 4;
+}
+
+static unsigned line_of(const uint8_t *unit)
+{
+    return unit[12] + 256u * unit[13];
+}
+
+/* Whether a record of 16 bytes is well formed. */
+static int is_well_formed(const uint8_t *unit)
+{
+    return unit[2] % 32 == 0 && unit[5] < 128 && unit[7] < 128 && unit[8] < 8 && unit[9] < 2 && line_of(unit) < 262 &&
+           unit[14] < 2 && is_board(unit[15]);
+}
+
+/* Whether a memory that the call is lent, the unit's record aside, has another length than it must. */
+static int has_wrong_memory(int as, unsigned of_board)
+{
+    for (int m = UNIT + 1; m < MEMORIES; m++)
+        if ((lent[as] >> m & 1) && memory[m].length != right_for(m, of_board))
+            return 1;
+    return 0;
+}
+
+/* The number of a read or a write by a unit, when nothing else is wrong. */
+static int due_to_access(int as, unsigned place, const uint8_t *unit)
+{
+    int drawing = (unit[1] & 0x18) && (line_of(unit) < 240 || line_of(unit) == 261);
+    if (place < 0x2000 || place > 0x3FFF)
+        return 1;
+    return drawing && (place % 8 == 7 || (place % 8 == 4 && as == READ)) ? 4 : 0;
+}
+
+/* The number that is due, for a call or for the one that a log's record stands for. */
+static int due(int kind, int as)
+{
+    const uint8_t *unit = memory[UNIT].at, *log = memory[LOG].at;
+    if (is_unknown(kind))
+        return 5;
+    if (as == TEXT || as == TEXT_PAGE)
+        return has_wrong_memory(as, 0) ? 2 : as == TEXT_PAGE && has_bad_character(&memory[ROWS], &memory[TABLE]) ? 8 : 0;
+    if (memory[UNIT].length != right_length[UNIT])
+        return 2;
+    if (as == FRESH)
+        return is_board(byte) ? 0 : 3;
+    if (!is_well_formed(unit))
+        return 3;
+    if (has_wrong_memory(as, unit[15]))
+        return 2;
+    return as == READ || as == WRITE ? due_to_access(as, kind == PLAY ? log[1] * 256u + log[2] : address, unit) : 0;
+}
+
 static int round_of(long round, int kind)
 {
-    int wrong = 0;
+    char said[64];
     prepare(kind);
-    int as = kind == PLAY ? played(&memory[LOG]) : kind, unknown = is_unknown(kind);
-    for (int m = 0; m < MEMORIES; m++)
-        wrong |= !unknown && (lent[as] >> m & 1) && memory[m].length != right_length[m];
-    int bad = as == TEXT_PAGE && !wrong && has_bad_character(&memory[ROWS], &memory[TABLE]);
+    int as = kind == PLAY ? played(&memory[LOG]) : kind, wanted = due(kind, as);
     uint64_t answer = call(kind);
     reach();
     int number = (int)ppu_number(answer);
-    if ((number == 5) != unknown)
-        complain(round, kind, unknown ? "an unknown request is not refused with 5" : "a known request is refused with 5");
-    if ((number == 2) != wrong)
-        complain(round, kind, wrong ? "a wrong length is not refused with 2" : "the right lengths are refused with 2");
-    if ((number == 8) != bad)
-        complain(round, kind, bad ? "a bad character is not refused with 8" : "good characters are refused with 8");
+    snprintf(said, sizeof said, "answers %d where %d is due", number, wanted);
+    if (number != wanted)
+        complain(round, kind, said);
+    on_four_pages[kind] += number == 0 && (lent[kind] >> UNIT & 1) && memory[UNIT].at[15] % 8 == 4;
     if (number != 0 && answer != (uint64_t)number)
         complain(round, kind, "a refusal says more than its number");
     if (!is_looked(ppu_looked(answer), number == 0 && kind == SEARCH))
@@ -342,10 +410,12 @@ int main(int argc, char **argv)
         count[kind][round_of(round, kind) % NUMBERS]++;
     }
     for (int k = 0; k < KINDS; k++) {
-        printf("  %-6s %ld done (%ld met), refused %ld with 1, %ld with 2, %ld with 3, %ld with 4, %ld with 5, %ld with 8\n",
-               kind_name[k], count[k][0], met[k], count[k][1], count[k][2], count[k][3], count[k][4], count[k][5], count[k][8]);
+        int of_unit = lent[k] >> UNIT & 1;
+        printf("  %-6s %ld done (%ld on four pages, %ld met), refused %ld with 1, %ld with 2, %ld with 3, %ld with 4, %ld with 5, %ld with 8\n",
+               kind_name[k], count[k][0], on_four_pages[k], met[k], count[k][1], count[k][2], count[k][3], count[k][4], count[k][5],
+               count[k][8]);
         failed |= count[k][0] == 0 || count[k][2] == 0 || ((k == PLAY || k == SEARCH || is_run(k)) && count[k][5] == 0) ||
-                  (k == TEXT_PAGE && count[k][8] == 0);
+                  (k == TEXT_PAGE && count[k][8] == 0) || (of_unit && (count[k][3] == 0 || on_four_pages[k] == 0));
     }
     printf("tests/callers: %ld calls, seed %s, %s: %s\n", rounds, argv[2], argv[3], failed ? "FAILED" : "ok");
     return failed;

@@ -7,6 +7,7 @@
 enum { SIZE = 256 * 1024, PAINT = 0xA5, MOST = 2048 };
 
 static Machine m;
+static uint8_t board;
 static uint8_t *stack;
 static uint8_t table[PPU_TABLE_LENGTH], rows[PPU_ROWS_LENGTH];
 static uint64_t sum; /* of what is answered: no call may be left out */
@@ -25,7 +26,7 @@ static void nothing(void) {}
 
 static void fresh_units(void)
 {
-    sum += ppu_fresh(m.unit, 16, PPU_VERTICAL | PPU_WRITABLE) + ppu_fresh(m.unit, 16, 16);
+    sum += ppu_fresh(m.unit, 16, board) + ppu_fresh(m.unit, 16, 16);
 }
 
 static void reads(void)
@@ -77,15 +78,17 @@ static void plays(void)
 
 static void texts(void)
 {
-    right_answers = ppu_text(m.nametables, 1024, table, 256, rows, 960) == PPU_DONE;
+    right_answers += ppu_text(m.nametables, 1024, table, 256, rows, 960) == PPU_DONE;
 }
 
 /* the page of that text, and one that is refused for its last character */
 static void pages(void)
 {
+    uint8_t last = rows[959];
     right_answers += ppu_page(rows, 960, table, 256, m.nametables + 1024, 1024) == PPU_DONE;
     rows[959] = 0;
     right_answers += ppu_page(rows, 960, table, 256, m.nametables + 1024, 1024) == PPU_BAD_CHARACTER;
+    rows[959] = last;
 }
 
 static const struct {
@@ -113,6 +116,20 @@ static size_t used_by(void (*work)(void))
     return SIZE - left;
 }
 
+/* the more of what a call's work uses on a board with two pages and on one with four */
+static size_t used_on_boards(void (*work)(void))
+{
+    static const uint8_t boards[] = { PPU_VERTICAL | PPU_WRITABLE, PPU_FOUR_PAGES | PPU_WRITABLE };
+    size_t most = 0;
+    for (int i = 0; i < 2; i++) {
+        board = m.unit[PPU_AT_BOARD] = boards[i];
+        size_t used = used_by(work);
+        most = used > most ? used : most;
+        EXPECT(m.unit[PPU_AT_BOARD], boards[i]);
+    }
+    return most;
+}
+
 int main(void)
 {
     stack = aligned();
@@ -126,7 +143,7 @@ int main(void)
         calls[i].work(); /* the dynamic linker resolves what the calls use now, and not on the painted stack */
     size_t alone = used_by(nothing);
     for (int i = 0; i < CALLS; i++) {
-        size_t used = used_by(calls[i].work);
+        size_t used = used_on_boards(calls[i].work);
         EXPECT(used > alone, 1);
         EXPECT(used - alone < MOST, 1);
         printf("  stack %s %zu\n", calls[i].name, used - alone);
@@ -134,8 +151,8 @@ int main(void)
     EXPECT(m.unit[PPU_AT_MASK], 0x1E);
     EXPECT(sum > 0, 1);
     EXPECT(cut_short > 0 && cut_short < 56, 1);
-    EXPECT(right_answers, 3);
-    part("each call's stack");
+    EXPECT(right_answers, 3 * 3); /* once before, and on both boards */
+    part("each call's stack, on boards with two pages and four");
     release(&m);
     free(stack);
     return verdict("tests/stack");

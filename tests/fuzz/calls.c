@@ -15,14 +15,16 @@
 enum { UNIT, LEFT, RIGHT, NAMETABLES, OAM, PALETTE, LINE, COLOURS, PAGE, LOG, SCREEN, ROWS, TABLE, MEMORIES };
 enum { LONGEST = 4096, SLACK = 16, STEPS = 60, MOST_LINES = 24, CONTENTS = 16 };
 
-static const size_t right_length[MEMORIES] = {16, 4096, 4096, 2048, 256, 32, 256, 512, 256, 4, 1024, 960, 256};
+/* What each memory holds. */
+static const size_t held[MEMORIES] = {16, 4096, 4096, PPU_FOUR_PAGES_LENGTH, 256, 32, 256, 512, 256, 4, 1024, 960, 256};
 
 struct side {
     uint8_t memory[MEMORIES][LONGEST + 2 * SLACK];
 };
 
 static struct side library, second;
-static size_t length[MEMORIES];
+static size_t length[MEMORIES]; /* for the next call */
+static int chosen[MEMORIES];    /* whether that is as the string says, and not the right one */
 
 static const uint8_t *input;
 static size_t left_over;
@@ -46,6 +48,40 @@ static void set_byte(int memory, size_t at, uint8_t byte)
     library.memory[memory][SLACK + at] = second.memory[memory][SLACK + at] = byte;
 }
 
+/* One of the ten boards. */
+static uint8_t board_of(uint8_t byte)
+{
+    return (byte & PPU_WRITABLE) | (byte & 7) % 5;
+}
+
+/* What a call asks for: of nametable RAM what the unit's board has. */
+static size_t right_length(const struct side *side, int memory)
+{
+    return memory == NAMETABLES ? ppu_nametable_length(side->memory[UNIT][SLACK + PPU_AT_BOARD]) : held[memory];
+}
+
+static size_t lent_length(const struct side *side, int memory)
+{
+    return chosen[memory] ? length[memory] : right_length(side, memory);
+}
+
+static void choose_length(int memory, size_t other)
+{
+    length[memory] = other;
+    chosen[memory] = 1;
+}
+
+/* The right length, or one off; of nametable RAM also what a board of the other kind has. */
+static void choose_near(int memory)
+{
+    unsigned how = take();
+    size_t right = right_length(&library, memory);
+    if (memory == NAMETABLES && how % 4 == 3)
+        choose_length(memory, PPU_NAMETABLE_LENGTH + PPU_FOUR_PAGES_LENGTH - right);
+    else
+        choose_length(memory, right - 1 + how % 3);
+}
+
 static void make_well_formed(uint8_t *unit)
 {
     unsigned line = (unit[12] | unit[13] << 8) % 262;
@@ -57,7 +93,7 @@ static void make_well_formed(uint8_t *unit)
     unit[12] = line & 255;
     unit[13] = line >> 8;
     unit[14] &= 1;
-    unit[15] &= 0x0B;
+    unit[15] = board_of(unit[15]);
 }
 
 static void fill(struct side *side, unsigned choice)
@@ -70,7 +106,7 @@ static void fill(struct side *side, unsigned choice)
         }
 }
 
-#define SLICE(side, m) (side).memory[m] + SLACK, length[m]
+#define SLICE(side, m) (side).memory[m] + SLACK, lent_length(&(side), m)
 #define ACCESS(side) SLICE(side, LEFT), SLICE(side, RIGHT), SLICE(side, NAMETABLES), SLICE(side, OAM), SLICE(side, PALETTE)
 #define PICTURE(side) ACCESS(side), SLICE(side, LINE), SLICE(side, COLOURS)
 
@@ -82,7 +118,7 @@ static void compare(const char *what, uint64_t one, uint64_t other)
                 (unsigned long long)other);
         abort();
     }
-    memcpy(length, right_length, sizeof length);
+    memset(chosen, 0, sizeof chosen);
 }
 
 static unsigned next_line(void)
@@ -163,7 +199,7 @@ static void put_rows(void)
 /* The page of a quarter of nametable RAM under the unit's wiring. */
 static void put_quarter(void)
 {
-    uint8_t board = library.memory[UNIT][SLACK + 15] & 0x0B;
+    uint8_t board = board_of(library.memory[UNIT][SLACK + PPU_AT_BOARD]);
     unsigned quarter = take();
     size_t start = ppu_quarter(board, quarter);
     if (start != second_quarter(board, quarter)) {
@@ -196,10 +232,8 @@ static void text_layer(unsigned what)
         put_rows();
     else if (what & 64)
         put_quarter();
-    if (what & 128) {
-        int memory = SCREEN + (int)(take() % 3);
-        length[memory] = right_length[memory] - 1 + take() % 3;
-    }
+    if (what & 128)
+        choose_near(SCREEN + (int)(take() % 3));
     if (what & 16) {
         uint64_t answer = ppu_page(SLICE(library, ROWS), SLICE(library, TABLE), SLICE(library, SCREEN));
         compare("page", answer, second_page(SLICE(second, ROWS), SLICE(second, TABLE), SLICE(second, SCREEN)));
@@ -215,10 +249,8 @@ static void text_layer(unsigned what)
 static void search(unsigned what)
 {
     unsigned line = what & 32 ? take_two() : what & 64 ? take() : next_line();
-    if (what & 128) {
-        int memory = take() & 1 ? UNIT : OAM;
-        length[memory] = right_length[memory] - 1 + take() % 3;
-    }
+    if (what & 128)
+        choose_near(take() & 1 ? UNIT : OAM);
     compare("search", ppu_search(SLICE(library, UNIT), line, SLICE(library, OAM)),
             second_search(SLICE(second, UNIT), line, SLICE(second, OAM)));
 }
@@ -254,10 +286,8 @@ static void access_memory(unsigned what)
 static void play_record(unsigned what)
 {
     put_record(what & 8);
-    if (what & 128) {
-        unsigned memory = take() % MEMORIES;
-        length[memory] = right_length[memory] - 1 + take() % 3;
-    }
+    if (what & 128)
+        choose_near((int)(take() % MEMORIES));
     compare("play", ppu_play(SLICE(library, UNIT), SLICE(library, LOG), PICTURE(library)),
             second_play(SLICE(second, UNIT), SLICE(second, LOG), PICTURE(second)));
 }
@@ -280,7 +310,7 @@ static void change(unsigned what)
     case 5:
         memory = what & 8 ? PAGE + (what >> 4) % (MEMORIES - PAGE) : what >> 4 & 7;
         address = take_two();
-        set_byte(memory, address % right_length[memory], (uint8_t)take());
+        set_byte(memory, address % held[memory], (uint8_t)take());
         break;
     case 6:
         if (what & 8)
@@ -291,7 +321,7 @@ static void change(unsigned what)
     case 7:
         memory = (what >> 4) % SCREEN;
         if (what & 8) {
-            length[memory] = take_two() % (right_length[memory] + SLACK + 1);
+            choose_length((int)memory, take_two() % (held[memory] + SLACK + 1));
         } else {
             byte = take();
             compare("fresh", ppu_fresh(SLICE(library, UNIT), byte), second_fresh(SLICE(second, UNIT), byte));
@@ -330,7 +360,7 @@ int LLVMFuzzerTestOneInput(const uint8_t *bytes, size_t size)
     if (!(form & 1))
         make_well_formed(library.memory[UNIT] + SLACK);
     second = library;
-    memcpy(length, right_length, sizeof length);
+    memset(chosen, 0, sizeof chosen);
     for (int steps = 0; left_over > 0 && steps < STEPS; steps++)
         step(take());
     return 0;

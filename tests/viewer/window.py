@@ -8,6 +8,7 @@
     window.py same X11 PNG                        the screen is the stored one
     window.py bmp FILE PNG                        so is this BMP file
     window.py picture X11 PALETTE DRAWN [MASK]    the picture is that of examples/picture.py in these colours, after DRAWN lines of it
+    window.py pages X11 PALETTE BOARD K           the picture is picture K of examples/pages.log, as tests/pictures.py draws it under this board
     window.py capture X11 PALETTE NAME K          the picture is picture K of this capture, as the emulator drew it, in these colours
     window.py panel X11                           prints the panel's text
     window.py search LOG                          prints what the panel must say of the next line's search at the log's end: nothing if it is not drawn
@@ -19,18 +20,17 @@ what the window shows, at its own size: each of its pixels must stand there as a
 import array
 import random
 import re
-import runpy
 import struct
 import sys
-import tempfile
 import zlib
 from pathlib import Path
 
 ROOT = Path(__file__).resolve().parents[2]
 sys.dont_write_bytecode = True
 sys.path.insert(0, str(ROOT / "tests"))
-from pictures import captures, extended, fill, finished, palettes, run, shown, write
+from pictures import Filled, captures, extended, fill, finished, palettes, run, shown, write
 from searches import Sprites
+from texts import known_of
 WIDTH, HEIGHT, MARGIN, PANEL_LEFT, PITCH, COLUMNS = 496, 256, 8, 280, 9, 26     # the layout of examples/screen.h
 BACKDROP = bytes.fromhex("24272E")
 HITS, FLOOR = (92, 60, 150), 96     # hits.log: sprite 0's Y byte, picture by picture, and the first line of the background that it can hit
@@ -38,14 +38,6 @@ HITS, FLOOR = (92, 60, 150), 96     # hits.log: sprite 0's Y byte, picture by pi
 
 def fail(text):
     sys.exit(f"window.py: {text}")
-
-
-def example():
-    """What examples/picture.py knows; a copy of it is run, since it writes its log beside itself."""
-    with tempfile.TemporaryDirectory() as folder:
-        copy = Path(folder, "picture.py")
-        copy.write_bytes((ROOT / "examples/picture.py").read_bytes())
-        return runpy.run_path(str(copy))
 
 
 def scattered(chance):
@@ -87,9 +79,7 @@ def logs(folder):
     """The example's log, checked; the same with other masks; the same with 1200 pictures more; the captures' logs; one with sprite 0 hits; for
     the panel the document's log cut short and with more records, bad ones too, random accesses and runs, and crowds of sprites, of both
     heights."""
-    log = bytes(example()["log"])
-    if log != (ROOT / "examples/picture.log").read_bytes():
-        fail("examples/picture.log is not what examples/picture.py writes")
+    log = bytes(known_of("picture.py")["log"])
     mask = bytes((1, 0x20, 1, 0x1E))
     if log.count(mask) != 1:
         fail("examples/picture.log does not set the mask to $1E once")
@@ -227,7 +217,7 @@ def same(rows, wanted, what):
 
 def numbers():
     """The example's pixel numbers, from its letters and its ball: a text on row 12 from column 8 on, eight sprites from line 141 on."""
-    known = example()
+    known = known_of("picture.py")
     picture = [[0] * 256 for _ in range(240)]
     for column, letter in enumerate(known["TEXT"], 8):
         for y, bits in enumerate(bytes.fromhex(known["FONT"][letter])):
@@ -257,9 +247,18 @@ def picture(place, palette, drawn, mask):
     same(picture_of(place), wanted, "the picture")
 
 
+def same_colours(place, palette, numbers, what):
+    colours = shown(extended(Path(palette).read_bytes()), numbers)
+    same(picture_of(place), [colours[at:at + 3 * 256] for at in range(0, len(colours), 3 * 256)], what)
+
+
+def pages(place, palette, board, k):
+    filled = Filled(ROOT / "examples/pages.log", board)
+    same_colours(place, palette, (filled.palette[number] for number in filled.picture(k)), f"picture {k} of pages.log, board {board}")
+
+
 def capture(place, palette, name, k):
-    colours = shown(extended(Path(palette).read_bytes()), finished(name)[k])
-    same(picture_of(place), [colours[at:at + 3 * 256] for at in range(0, len(colours), 3 * 256)], f"picture {k} of {name}")
+    same_colours(place, palette, finished(name)[k], f"picture {k} of {name}")
 
 
 def panel(place):
@@ -296,6 +295,8 @@ def main(job, *words):
         same(bmp(words[0]), stored(words[1]), words[0])
     elif job == "picture":
         picture(words[0], words[1], int(words[2]), int(words[3], 16) if words[3:] else 0x1E)
+    elif job == "pages":
+        pages(*words[:2], int(words[2]), int(words[3]))
     elif job == "capture":
         capture(*words[:3], int(words[3]))
     elif job == "panel":

@@ -7,8 +7,8 @@
 #![allow(clippy::too_many_arguments, clippy::missing_safety_doc)]
 
 use second::calls;
+use second::memory;
 use second::text;
-#[cfg(not(as_library))]
 use second::unit::Board;
 use std::slice::{from_raw_parts, from_raw_parts_mut};
 
@@ -221,9 +221,18 @@ pub unsafe extern "C" fn page(
     .into()
 }
 
-/// Where the page of a quarter begins, for a well-formed board byte; the library has it in the header alone.
-#[cfg(not(as_library))]
-#[export_name = "second_quarter"]
+// These two the library has in its header alone, which `header.c` compiles.
+
+/// How much nametable RAM a board has, for a well-formed board byte.
+#[cfg_attr(as_library, export_name = "header_nametable_length")]
+#[cfg_attr(not(as_library), export_name = "second_nametable_length")]
+pub extern "C" fn nametable_length(board: u8) -> Size {
+    Board::from_byte(board).map_or(Size::MAX, memory::nametable_length)
+}
+
+/// Where the page of a quarter begins, for a well-formed board byte.
+#[cfg_attr(as_library, export_name = "header_quarter")]
+#[cfg_attr(not(as_library), export_name = "second_quarter")]
 pub extern "C" fn quarter(board: u8, quarter: u32) -> Size {
     Board::from_byte(board).map_or(Size::MAX, |board| text::quarter(board, (quarter % 4) as u16))
 }

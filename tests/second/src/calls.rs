@@ -2,7 +2,7 @@
 
 use crate::colours::Buffers;
 use crate::log::Request;
-use crate::memory::{Lent, LentMut};
+use crate::memory::{nametable_length, Lent, LentMut};
 use crate::runs::{Ran, Reason};
 use crate::unit::{Board, Unit, RECORD};
 
@@ -62,6 +62,12 @@ fn fixed_mut<const N: usize>(slice: &mut [u8]) -> Result<&mut [u8; N], Refusal> 
     slice.try_into().map_err(|_| Refusal::Length)
 }
 
+/// Nametable RAM, if it has the board's own length: so the unit is loaded before memory is looked at.
+fn nametables_of<M: AsRef<[u8]>>(board: Board, memory: M) -> Result<M, Refusal> {
+    let is_right = memory.as_ref().len() == nametable_length(board);
+    is_right.then_some(memory).ok_or(Refusal::Length)
+}
+
 fn loaded(record: &[u8; RECORD]) -> Result<Unit, Refusal> {
     Unit::from_record(record).ok_or(Refusal::Malformed)
 }
@@ -106,14 +112,14 @@ pub fn read(
     palette: &[u8],
 ) -> Answer {
     call(record, |saved| {
+        let mut unit = loaded(saved)?;
         let memory = Lent {
             left: fixed(left)?,
             right: fixed(right)?,
-            nametables: fixed(nametables)?,
+            nametables: nametables_of(unit.board, nametables)?,
             oam: fixed(oam)?,
             palette: fixed(palette)?,
         };
-        let mut unit = loaded(saved)?;
         let port = port(address)?;
         if unit.is_drawing() && (port == 4 || port == 7) {
             return Err(Refusal::Drawing);
@@ -135,14 +141,14 @@ pub fn write(
     palette: &mut [u8],
 ) -> Answer {
     call(record, |saved| {
+        let mut unit = loaded(saved)?;
         let mut memory = LentMut {
             left: fixed_mut(left)?,
             right: fixed_mut(right)?,
-            nametables: fixed_mut(nametables)?,
+            nametables: nametables_of(unit.board, nametables)?,
             oam: fixed_mut(oam)?,
             palette: fixed_mut(palette)?,
         };
-        let mut unit = loaded(saved)?;
         let port = port(address)?;
         if unit.is_drawing() && port == 7 {
             return Err(Refusal::Drawing);
@@ -154,9 +160,9 @@ pub fn write(
 
 pub fn dma(record: &mut [u8], oam: &mut [u8], page: &[u8]) -> Answer {
     call(record, |saved| {
+        let mut unit = loaded(saved)?;
         let oam = fixed_mut(oam)?;
         let page: &[u8; 256] = fixed(page)?;
-        let mut unit = loaded(saved)?;
         page.iter().for_each(|&byte| unit.write_oam(byte, oam));
         Ok((unit, Done::default()))
     })
@@ -181,15 +187,15 @@ fn lines_run(
     [line, colours]: [&mut [u8]; 2],
 ) -> Answer {
     call(record, |saved| {
+        let mut unit = loaded(saved)?;
         let scene = Lent {
             left: fixed(left)?,
             right: fixed(right)?,
-            nametables: fixed(nametables)?,
+            nametables: nametables_of(unit.board, nametables)?,
             oam: fixed(oam)?,
             palette: fixed(palette)?,
         };
         let mut buffers = Buffers { line: fixed_mut(line)?, colours: fixed_mut(colours)? };
-        let mut unit = loaded(saved)?;
         let Ran { lines, met } = unit.run(most, reason, &scene, &mut buffers);
         Ok((unit, Done { lines, met, ..Done::default() }))
     })
@@ -226,8 +232,8 @@ fn searched(record: &[u8], line: u16, oam: &[u8]) -> Result<Answer, Refusal> {
     if line > 239 {
         return Err(Refusal::Request);
     }
-    let (saved, oam) = (fixed(record)?, fixed(oam)?);
-    let unit = loaded(saved)?;
+    let unit = loaded(fixed(record)?)?;
+    let oam = fixed(oam)?;
     let looked = unit.search(oam, line).looked;
     Ok(Answer { looked, nmi: unit.nmi(), ..Answer::default() })
 }

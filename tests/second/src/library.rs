@@ -106,6 +106,20 @@ extern "C" {
     ) -> u64;
 }
 
+// The header's own functions, from `header.c`.
+extern "C" {
+    fn header_nametable_length(board: u8) -> usize;
+    fn header_quarter(board: u8, quarter: u32) -> usize;
+}
+
+pub fn nametable_length(board: u8) -> usize {
+    unsafe { header_nametable_length(board) }
+}
+
+pub fn quarter(board: u8, quarter: u32) -> usize {
+    unsafe { header_quarter(board, quarter) }
+}
+
 pub fn fresh(unit: &mut [u8], board: u8) -> u64 {
     unsafe { ppu_fresh(unit.as_mut_ptr(), unit.len(), board) }
 }

@@ -1,11 +1,12 @@
 //! The records of a log, and the player of logs.
 
 use crate::calls::{self, Answer, Refusal};
-use crate::memory::{COLOURS, LINE, NAMETABLES, OAM, PALETTE, TABLE};
-use crate::unit::RECORD;
+use crate::memory::{nametable_length, COLOURS, LINE, OAM, PALETTE, TABLE};
+use crate::unit::{Board, Unit, Wiring, RECORD};
 use std::io::{self, Write};
 
-const BOARD: u8 = 9;
+/// Board 9.
+const BOARD: Board = Board { wiring: Wiring::Vertical, writable: true };
 
 /// What a record of a log asks for.
 #[derive(Clone, Copy, Debug, PartialEq, Eq)]
@@ -30,12 +31,12 @@ impl Request {
 }
 
 /// A unit as its record, with all the memory that it is lent.
-#[derive(PartialEq, Eq)]
+#[derive(Clone, PartialEq, Eq)]
 pub struct Machine {
     pub unit: [u8; RECORD],
     pub left: [u8; TABLE],
     pub right: [u8; TABLE],
-    pub nametables: [u8; NAMETABLES],
+    pub nametables: Vec<u8>,
     pub oam: [u8; OAM],
     pub palette: [u8; PALETTE],
     pub line: [u8; LINE],
@@ -44,19 +45,17 @@ pub struct Machine {
 
 impl Machine {
     /// A fresh unit and all memory zero.
-    pub fn new(board: u8) -> Machine {
-        let mut machine = Machine {
-            unit: [0; RECORD],
+    pub fn new(board: Board) -> Machine {
+        Machine {
+            unit: Unit::fresh(board).record(),
             left: [0; TABLE],
             right: [0; TABLE],
-            nametables: [0; NAMETABLES],
+            nametables: vec![0; nametable_length(board)],
             oam: [0; OAM],
             palette: [0; PALETTE],
             line: [0; LINE],
             colours: [0; COLOURS],
-        };
-        calls::fresh(&mut machine.unit, board);
-        machine
+        }
     }
 
     pub fn read(&mut self, address: u16) -> Answer {

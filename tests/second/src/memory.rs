@@ -3,7 +3,8 @@
 use crate::unit::Board;
 
 pub const TABLE: usize = 4096;
-pub const NAMETABLES: usize = 2048;
+/// A page of nametable RAM; how many there are the board says.
+pub const NAMETABLE: usize = 1024;
 pub const OAM: usize = 256;
 pub const PALETTE: usize = 32;
 pub const LINE: usize = 256;
@@ -14,7 +15,8 @@ pub const PAGE: usize = 256;
 pub struct Lent<'a> {
     pub left: &'a [u8; TABLE],
     pub right: &'a [u8; TABLE],
-    pub nametables: &'a [u8; NAMETABLES],
+    /// As long as `nametable_length` of the unit's board says.
+    pub nametables: &'a [u8],
     pub oam: &'a [u8; OAM],
     pub palette: &'a [u8; PALETTE],
 }
@@ -23,15 +25,20 @@ pub struct Lent<'a> {
 pub struct LentMut<'a> {
     pub left: &'a mut [u8; TABLE],
     pub right: &'a mut [u8; TABLE],
-    pub nametables: &'a mut [u8; NAMETABLES],
+    pub nametables: &'a mut [u8],
     pub oam: &'a mut [u8; OAM],
     pub palette: &'a mut [u8; PALETTE],
+}
+
+/// How much nametable RAM a board has.
+pub fn nametable_length(board: Board) -> usize {
+    board.wiring.pages() * NAMETABLE
 }
 
 /// The cell of nametable RAM behind an address from $2000.
 pub fn nametable_cell(board: Board, address: u16) -> usize {
     let quarter = address / 1024 % 4;
-    board.wiring.page(quarter) * 1024 + usize::from(address % 1024)
+    board.wiring.page(quarter) * NAMETABLE + usize::from(address % 1024)
 }
 
 /// The cell of the palette behind an address from $3F00.

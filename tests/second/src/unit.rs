@@ -12,6 +12,7 @@ pub enum Wiring {
     Vertical,
     FirstPage,
     SecondPage,
+    FourPages,
 }
 
 impl Wiring {
@@ -22,6 +23,15 @@ impl Wiring {
             Wiring::Vertical => usize::from(quarter % 2 == 1),
             Wiring::FirstPage => 0,
             Wiring::SecondPage => 1,
+            Wiring::FourPages => quarter.into(),
+        }
+    }
+
+    /// How many pages nametable RAM has: the console's two, or four of the cartridge's own.
+    pub fn pages(self) -> usize {
+        match self {
+            Wiring::FourPages => 4,
+            _ => 2,
         }
     }
 }
@@ -39,6 +49,7 @@ impl Board {
             1 => Wiring::Vertical,
             2 => Wiring::FirstPage,
             3 => Wiring::SecondPage,
+            4 => Wiring::FourPages,
             _ => return None,
         };
         (byte >> 4 == 0).then_some(Board { wiring, writable: byte & 8 != 0 })

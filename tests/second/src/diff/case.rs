@@ -2,11 +2,11 @@
 //!
 //!     write address=2007 byte=41 unit=0000..09 oam:255 left@0010=80FF
 //!
-//! `NAME:N` lends another length than the right one; `NAME@OFFSET=BYTES` are bytes that are not
-//! zero, `BYTES*N` being N times the same; all else is zero. Lengths, `N`, `most`, `reason` and `scanline`
-//! are decimal, all else is hex.
+//! `NAME:N` lends another length than the right one, which for nametable RAM the record's board says;
+//! `NAME@OFFSET=BYTES` are bytes that are not zero, `BYTES*N` being N times the same; all else is zero.
+//! Lengths, `N`, `most`, `reason` and `scanline` are decimal, all else is hex.
 
-use crate::world::{Call, Kind, Name, World, LENGTHS, SLACK};
+use crate::world::{Call, Kind, Name, World, SLACK};
 use std::fmt::Write;
 
 #[derive(Clone)]
@@ -85,8 +85,8 @@ impl Case {
             Kind::Dma | Kind::Play | Kind::Text | Kind::Page => {}
         }
         for name in Name::ALL {
-            let length = call.lengths[name as usize];
-            if length != name.length() {
+            let right = name.length(self.before.board());
+            if let Some(length) = call.lengths[name as usize].filter(|&length| length != right) {
                 write!(text, " {}:{length}", name.text()).unwrap();
             }
         }
@@ -122,8 +122,8 @@ impl Case {
         let name = |text: &str| Name::ALL.into_iter().find(|n| n.text() == text);
         if let Some((memory, length)) = word.split_once(':') {
             let (name, length) = (name(memory)?, length.parse().ok()?);
-            self.call.lengths[name as usize] = length;
-            return (length <= LENGTHS[name as usize] + SLACK).then_some(());
+            self.call.lengths[name as usize] = Some(length);
+            return (length <= name.longest() + SLACK).then_some(());
         }
         let (left, value) = word.split_once('=')?;
         match left {
@@ -170,7 +170,7 @@ impl Case {
     fn simplify(&mut self, name: Name, start: usize, end: usize) {
         let bytes = self.before.of(name);
         let plain = match name {
-            Name::Rows => vec![0, bytes[0], bytes[name.length() - 1]],
+            Name::Rows => vec![0, bytes[0], bytes[name.longest() - 1]],
             _ => vec![0],
         };
         for byte in plain {

@@ -20,7 +20,7 @@ fn tone(number: usize) -> u8 {
 /// Both buffers with something to be overwritten, or to stay.
 fn stain(trial: &mut Trial, random: &mut Random) {
     for name in [Name::Line, Name::Colours] {
-        let mut bytes = vec![0; name.length()];
+        let mut bytes = vec![0; name.longest()];
         random.fill(&mut bytes);
         trial.set(name, &bytes);
     }
@@ -67,7 +67,7 @@ pub fn masks(trial: &mut Trial, random: &mut Random, part: usize) -> Result<(), 
 fn set_all_numbers(trial: &mut Trial, line: u16) {
     let row = |at: usize| if at % 16 < 8 { 0x55 } else { 0x33 };
     let tiles: [u8; 4096] = std::array::from_fn(row);
-    let attributes: [u8; 2048] = std::array::from_fn(|at| if at % 2 == 0 { 0xE4 } else { 0x1B });
+    let attributes: [u8; 4096] = std::array::from_fn(|at| if at % 2 == 0 { 0xE4 } else { 0x1B });
     let mut oam = [0xFF; 256];
     for (sprite, bytes) in oam.chunks_mut(4).take(8).enumerate() {
         bytes.copy_from_slice(&[line as u8 - 1, 0, sprite as u8 & 3, 32 * sprite as u8]);

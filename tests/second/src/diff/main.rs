@@ -11,6 +11,7 @@
 mod case;
 mod colours;
 mod mixed;
+mod order;
 mod overflow;
 mod random;
 mod runs;
@@ -180,6 +181,7 @@ fn print_tally(tally: &Tally) {
         tally.lines_run, tally.hits, tally.overflows, tally.sprite_pixels, tally.background_pixels
     );
     print_runs(tally);
+    print_four_pages(tally);
     println!(
         "  runs of one line on which bit 5 stays clear with nine sprites in range or more: {}, is set with fewer: {}",
         tally.passed_over, tally.mistaken
@@ -213,6 +215,19 @@ fn print_runs(tally: &Tally) {
     println!("  {} runs of a log went on after line 241 with control bit 7 set", tally.went_on);
 }
 
+/// What was done on boards with four pages.
+fn print_four_pages(tally: &Tally) {
+    let pages = &tally.four_pages;
+    let kinds = Kind::ALL.into_iter().filter(|kind| kind.has_unit());
+    let done: Vec<String> = kinds.map(|k| format!("{} {}", k.text(), pages.done[k as usize])).collect();
+    println!("  done on boards with four pages: {}", done.join(", "));
+    println!(
+        "  .. in pages 2 and 3 {} accesses of port 7, {} background pixels of runs of one line; refused for 2048 bytes \
+         of nametable RAM {} times, with two pages for 4096 {} times",
+        pages.far_accesses, pages.far_pixels, pages.given_two, pages.two_given_four
+    );
+}
+
 /// Runs for NMI and for a hit were met and were not, each in every way; those for no reason were not met.
 fn runs_are_whole([all, nmi, hit]: &[Runs; REASONS]) -> bool {
     nmi.are_of_each_kind() && hit.are_of_each_kind() && all.not_met > 0 && all.met == 0
@@ -243,6 +258,7 @@ fn is_whole(tally: &Tally) -> bool {
     Kind::ALL.into_iter().all(|k| reasons(k).iter().all(|&n| tally.answers[k as usize][n] > 0))
         && lines.iter().all(|&n| n > 0)
         && runs_are_whole(&tally.runs)
+        && tally.four_pages.are_whole()
         && tally.looked.keys().copied().eq(9..=64)
         && tally.bare_tiles > 0
 }

@@ -27,7 +27,7 @@ pub fn session(trial: &mut Trial, random: &mut Random, calls: usize) -> Result<(
         let kind = if random.one_in(200) { Fresh } else { random.pick(habit) };
         let mut call = some_call(trial, random, kind);
         if random.one_in(40) {
-            mislength(random, &mut call);
+            mislength(trial, random, &mut call);
         }
         if kind == Run {
             call.most = run_length(trial, random);
@@ -112,16 +112,13 @@ fn scatter_sprites(trial: &mut Trial, random: &mut Random, name: Name) {
 }
 
 /// Another length for a memory that the call is lent, or for some.
-pub fn mislength(random: &mut Random, call: &mut Call) {
+pub fn mislength(trial: &Trial, random: &mut Random, call: &mut Call) {
     loop {
         let name = random.pick(call.kind.lent());
-        let right = name.length();
-        call.lengths[name as usize] = match random.below(4) {
-            0 => right - 1,
-            1 => right + 1,
-            2 => 0,
-            _ => random.within(0, right + SLACK),
-        };
+        call.lengths[name as usize] = Some(match random.below(4) {
+            0 => random.within(0, name.longest() + SLACK),
+            _ => random.pick(&trial.wrong_lengths(name)),
+        });
         if !random.one_in(4) {
             break;
         }

@@ -5,7 +5,7 @@ use crate::runs::one_line;
 use crate::scenery::{self, crowd, in_range, is_in_range, out_of_range, sprite_height};
 use crate::systematic::{random_slots, refill, unit_at_line};
 use crate::trial::{Stop, Trial};
-use crate::world::{Call, Kind, Name, SLACK};
+use crate::world::{Call, Name};
 use second::calls::RUN_ALL;
 
 const SPRITES: usize = 64;
@@ -185,40 +185,5 @@ fn search_and_lines(trial: &mut Trial, random: &mut Random, line: u16) -> Result
     }
     trial.call(&Call::run(lines, RUN_ALL))?;
     assert!(trial.unit()[2] & OVERFLOW != 0 || !ends, "a run of {lines} from line {line}");
-    Ok(())
-}
-
-/// Every set of things wrong at once: 5 for the line, then 2, then 3.
-pub fn order_of_refusals(trial: &mut Trial, random: &mut Random, part: usize) -> Result<(), Stop> {
-    refill(trial, random);
-    for wrong in 0..16 {
-        let [is_above, malformed, short_unit, short_oam] = [0, 1, 2, 3].map(|bit| wrong >> bit & 1 == 1);
-        for round in 0..64 {
-            let line = match is_above {
-                true => [240, 241, 255, 256, 261, 262, 495, 65535][round % 8],
-                false => [0, 1, 7, 119, 127, 128, 238, 239][round % 8],
-            };
-            let mut unit = scenery::unit(random);
-            if malformed {
-                scenery::spoil(random, &mut unit);
-            }
-            let mut call = Call::search(line);
-            for (&name, is_off) in Kind::Search.lent().iter().zip([short_unit, short_oam]) {
-                let right = name.length();
-                let length = [right - 1, right + 1, random.below(right), right + SLACK][part];
-                call = if is_off { call.with_length(name, length) } else { call };
-            }
-            trial.set(Name::Unit, &unit);
-            let answer = trial.call(&call)?;
-            let due = match (is_above, short_unit || short_oam, malformed) {
-                (true, _, _) => 5,
-                (_, true, _) => 2,
-                (_, _, true) => 3,
-                _ => 0,
-            };
-            assert_eq!(answer & 255, due, "{call:?}");
-            assert!(due == 0 || answer == due, "a refusal is its number: {answer:X}");
-        }
-    }
     Ok(())
 }

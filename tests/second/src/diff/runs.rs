@@ -5,7 +5,7 @@ use crate::random::Random;
 use crate::scenery::{self, next_line};
 use crate::systematic::{refill, unit_at_line};
 use crate::trial::{Stop, Trial, REASONS};
-use crate::world::{Call, Kind, Name, SLACK};
+use crate::world::{Call, Kind, Name};
 use second::calls::{RUN_ALL, UNTIL_HIT, UNTIL_NMI};
 
 const SWITCHES: u8 = 0x18;
@@ -29,7 +29,7 @@ const CHANGED: [Name; 3] = [Name::Unit, Name::Line, Name::Colours];
 
 impl State {
     fn of(trial: &Trial) -> State {
-        State(CHANGED.iter().map(|&name| trial.of(name)[..name.length()].to_vec()).collect())
+        State(CHANGED.iter().map(|&name| trial.of(name)[..name.longest()].to_vec()).collect())
     }
 
     fn restore(&self, trial: &mut Trial) {
@@ -209,15 +209,13 @@ fn about_a_hit(trial: &mut Trial, most: u16) -> Result<bool, Stop> {
     Ok(true)
 }
 
-/// Every number of a reason with every set of things wrong at once: 5 for the reason, then 2, then 3.
-pub fn reasons(trial: &mut Trial, random: &mut Random, part: usize) -> Result<(), Stop> {
+/// Every number of a reason; the record, a memory or none of a wrong length; the record malformed or not.
+pub fn reasons(trial: &mut Trial, random: &mut Random, _: usize) -> Result<(), Stop> {
     refill(trial, random);
     for reason in 0..=255 {
         for wrong in 0..4 {
             for &name in Kind::Run.lent() {
-                let right = name.length();
-                let length = [right - 1, right + 1, random.below(right), right + SLACK][part];
-                let off = (wrong & 1 == 1).then_some((name, length));
+                let off = (wrong & 1 == 1).then_some(name);
                 reason_and_wrongs(trial, random, reason, off, wrong & 2 == 2)?;
             }
         }
@@ -225,12 +223,13 @@ pub fn reasons(trial: &mut Trial, random: &mut Random, part: usize) -> Result<()
     Ok(())
 }
 
-/// A run with that reason, a memory of a wrong length or none, and a record that is well formed or not.
+/// A run with that reason, a memory of a wrong length or none, and a record that is well formed or not: 5 for
+/// the reason, 2 for the record, 3, 2 for memory.
 fn reason_and_wrongs(
     trial: &mut Trial,
     random: &mut Random,
     reason: u8,
-    off: Option<(Name, usize)>,
+    off: Option<Name>,
     malformed: bool,
 ) -> Result<(), Stop> {
     let mut unit = scenery::unit(random);
@@ -240,13 +239,16 @@ fn reason_and_wrongs(
     trial.set(Name::Unit, &unit);
     let due = match (reason <= UNTIL_HIT, off, malformed) {
         (false, _, _) => 5,
-        (_, Some(_), _) => 2,
+        (_, Some(Name::Unit), _) => 2,
         (_, _, true) => 3,
+        (_, Some(_), _) => 2,
         _ => 0,
     };
     let most = random.below(if due == 0 { 4 } else { 65536 }) as u16;
-    let call = Call::run(most, reason);
-    let call = off.map_or(call.clone(), |(name, length)| call.with_length(name, length));
+    let mut call = Call::run(most, reason);
+    if let Some(name) = off {
+        call = call.with_length(name, random.pick(&trial.wrong_lengths(name)));
+    }
     let answer = trial.call(&call)?;
     assert_eq!(answer & 255, due, "{call:?}");
     assert!(due == 0 || answer == due, "a refusal is its number: {answer:X}");

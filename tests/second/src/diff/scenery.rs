@@ -6,6 +6,20 @@ use crate::random::Random;
 const EDGE_LINES: [u16; 12] = [0, 1, 2, 7, 238, 239, 240, 241, 242, 260, 261, 261];
 const MASKS: [u8; 8] = [0x00, 0x08, 0x10, 0x18, 0x1A, 0x1C, 0x1E, 0x1F];
 
+/// The board bytes that are well formed, and those of them that have two pages and four.
+pub const BOARDS: [u8; 10] = [0, 1, 2, 3, 4, 8, 9, 10, 11, 12];
+pub const TWO_PAGES: [u8; 8] = [0, 1, 2, 3, 8, 9, 10, 11];
+pub const FOUR_PAGES: [u8; 2] = [4, 12];
+
+/// A well-formed board byte, often one with four pages.
+pub fn board(random: &mut Random) -> u8 {
+    if random.one_in(4) {
+        random.pick(&FOUR_PAGES)
+    } else {
+        random.pick(&BOARDS)
+    }
+}
+
 /// A record that is well formed.
 pub fn unit(random: &mut Random) -> [u8; 16] {
     let mut unit = [0; 16];
@@ -25,7 +39,7 @@ pub fn unit(random: &mut Random) -> [u8; 16] {
     let line = if random.one_in(4) { random.pick(&EDGE_LINES) } else { random.below(262) as u16 };
     unit[12..14].copy_from_slice(&line.to_le_bytes());
     unit[14] = u8::from(!random.one_in(12));
-    unit[15] &= 0x0B;
+    unit[15] = board(random);
     unit
 }
 
@@ -73,7 +87,8 @@ pub fn spoil(random: &mut Random, unit: &mut [u8; 16]) {
                 unit[12..14].copy_from_slice(&(line as u16).to_le_bytes());
             }
             6 => unit[14] = random.within(2, 255) as u8,
-            _ => unit[15] |= random.pick(&[4, 0x10, 0x20, 0x40, 0x80]),
+            _ if random.one_in(2) => unit[15] = unit[15] & !7 | random.pick(&[5, 6, 7]),
+            _ => unit[15] |= random.pick(&[0x10, 0x20, 0x40, 0x80]),
         }
         if !random.one_in(4) {
             break;
@@ -122,8 +137,9 @@ pub fn table(random: &mut Random) -> [u8; 4096] {
     table
 }
 
-pub fn nametables(random: &mut Random) -> [u8; 2048] {
-    let mut cells = [0; 2048];
+/// Nametable RAM of four pages, of which a board with two is lent the first two.
+pub fn nametables(random: &mut Random) -> [u8; 4096] {
+    let mut cells = [0; 4096];
     match random.below(4) {
         0 => {
             let few = [random.byte(), random.byte(), random.byte()];
@@ -134,7 +150,7 @@ pub fn nametables(random: &mut Random) -> [u8; 2048] {
                 random.fill(&mut page[960..]);
             }
         }
-        1 => cells.fill(random.byte()),
+        1 => cells.chunks_mut(1024).for_each(|page| page.fill(random.byte())),
         _ => random.fill(&mut cells),
     }
     cells

@@ -1,10 +1,11 @@
 //! Sessions that go through all values of something.
 
 use crate::colours;
+use crate::order::{self, SUBJECTS};
 use crate::overflow;
 use crate::random::Random;
 use crate::runs::{self, one_line, some_reason};
-use crate::scenery;
+use crate::scenery::{self, BOARDS, FOUR_PAGES, TWO_PAGES};
 use crate::text;
 use crate::trial::{Stop, Trial};
 use crate::world::{Call, Kind, Name, KINDS, SLACK, UNIT_KINDS};
@@ -20,12 +21,12 @@ pub const SESSIONS: [(&str, Session, usize); 42] = [
     ("pairs of lengths", pairs_of_lengths, KINDS),
     ("records", records, UNIT_KINDS),
     ("wide fields", wide_fields, 15),
-    ("video memory", video_memory, 16),
+    ("video memory", video_memory, 2 * BOARDS.len()),
     ("scroll writes", scroll_writes, 8),
     ("OAM port", oam_port, 4),
     ("palette reads", palette_reads, 4),
     ("lines and masks", lines_and_masks, 8),
-    ("v on a line", v_on_a_line, 16),
+    ("v on a line", v_on_a_line, 32),
     ("sprite rows", sprite_rows, 8),
     ("sprite columns", sprite_columns, 8),
     ("sprites in number", sprites_in_number, 4),
@@ -38,7 +39,8 @@ pub const SESSIONS: [(&str, Session, usize); 42] = [
     ("lengths by a log", lengths_by_a_log, 1),
     ("each length by a log", each_length_by_a_log, 3),
     ("pairs of lengths by a log", pairs_by_a_log, 3),
-    ("order of refusals", order_of_refusals, 3),
+    ("order of refusals", order::sets, SUBJECTS.len()),
+    ("board bytes and lengths", order::boards, SUBJECTS.len()),
     ("masks and colours", colours::masks, 8),
     ("bytes of the palette", colours::palette_bytes, colours::TONES),
     ("v of a line that is off", colours::v_of_a_line_off, 16),
@@ -47,14 +49,13 @@ pub const SESSIONS: [(&str, Session, usize); 42] = [
     ("Y bytes of a search", overflow::y_bytes, 16),
     ("places of a search", overflow::places, 8),
     ("searches and lines", overflow::searches_and_lines, 8),
-    ("order of a search's refusals", overflow::order_of_refusals, 4),
     ("tables of characters", text::tables, 8),
     ("places of a page", text::places_of_a_page, 2),
     ("places of the rows", text::places_of_rows, 4),
     ("characters", text::characters, 4),
     ("attribute bytes", text::attribute_bytes, 1),
     ("three lengths", text::three_lengths, 2),
-    ("quarters", text::quarters, 8),
+    ("quarters", text::quarters, BOARDS.len()),
 ];
 
 /// New contents everywhere.
@@ -67,14 +68,14 @@ pub fn refill(trial: &mut Trial, random: &mut Random) {
     trial.set(Name::Oam, &scenery::oam(random, scenery::next_line(&unit)));
     trial.set(Name::Table, &scenery::characters(random));
     for name in [Name::Palette, Name::Line, Name::Colours, Name::Page, Name::Log, Name::Screen, Name::Rows] {
-        let mut bytes = vec![0; name.length()];
+        let mut bytes = vec![0; name.longest()];
         random.fill(&mut bytes);
         trial.set(name, &bytes);
     }
     for name in Name::ALL {
         let mut beyond = [0; SLACK];
         random.fill(&mut beyond);
-        trial.set_at(name, name.length(), &beyond);
+        trial.set_at(name, name.longest(), &beyond);
     }
 }
 
@@ -100,7 +101,7 @@ pub fn some_call(trial: &mut Trial, random: &mut Random, kind: Kind) -> Call {
         1 => random.next() as u16,
         _ => random.within(0x2000, 0x3FFF) as u16,
     };
-    let board = if random.one_in(4) { random.byte() } else { random.byte() & 0x0B };
+    let board = if random.one_in(4) { random.byte() } else { scenery::board(random) };
     match kind {
         Kind::Fresh => Call::fresh(board),
         Kind::Read => Call::read(address),
@@ -131,11 +132,18 @@ pub fn some_call(trial: &mut Trial, random: &mut Random, kind: Kind) -> Call {
     }
 }
 
+/// A fresh unit of every board byte, the record at each length: 2 for the record, then 3.
 fn boards(trial: &mut Trial, random: &mut Random, _: usize) -> Result<(), Stop> {
     for length in 0..=16 + SLACK {
         refill(trial, random);
         for board in 0..=255 {
-            trial.call(&Call::fresh(board).with_length(Name::Unit, length))?;
+            let answer = trial.call(&Call::fresh(board).with_length(Name::Unit, length))?;
+            let due = match (length, BOARDS.contains(&board)) {
+                (16, true) => 0,
+                (16, false) => 3,
+                _ => 2,
+            };
+            assert_eq!(answer, due, "a fresh unit of board {board} in {length} bytes");
         }
     }
     Ok(())
@@ -172,19 +180,23 @@ fn ports(trial: &mut Trial, random: &mut Random, port: usize) -> Result<(), Stop
     Ok(())
 }
 
-/// A kind of call, each memory lent at each length from 0 to beyond the right one.
+/// A kind of call, each memory lent at each length from 0 to beyond the longest, on boards with two pages and
+/// with four, the record well formed and not.
 fn lengths(trial: &mut Trial, random: &mut Random, kind: usize) -> Result<(), Stop> {
     let kind = Kind::ALL[kind];
     refill(trial, random);
     for &name in kind.lent() {
-        for length in 0..=name.length() + SLACK {
-            let mut unit = scenery::unit(random);
-            if random.one_in(3) {
-                scenery::spoil(random, &mut unit);
+        for length in 0..=name.longest() + SLACK {
+            for round in 0..4 {
+                let mut unit = scenery::unit(random);
+                unit[15] = random.pick([&TWO_PAGES[..], &FOUR_PAGES][round % 2]);
+                if round / 2 == 1 {
+                    scenery::spoil(random, &mut unit);
+                }
+                trial.set(Name::Unit, &unit);
+                let call = some_call(trial, random, kind);
+                trial.call(&call.with_length(name, length))?;
             }
-            trial.set(Name::Unit, &unit);
-            let call = some_call(trial, random, kind);
-            trial.call(&call.with_length(name, length))?;
         }
     }
     Ok(())
@@ -203,8 +215,8 @@ fn pairs_of_lengths(trial: &mut Trial, random: &mut Random, kind: usize) -> Resu
                 }
                 trial.set(Name::Unit, &unit);
                 let call = some_call(trial, random, kind);
-                let call = call.with_length(one, one.length() + which / 2 % 3 - 1);
-                trial.call(&call.with_length(other, other.length() + which / 6 % 3 - 1))?;
+                let call = call.with_length(one, trial.length(one) + which / 2 % 3 - 1);
+                trial.call(&call.with_length(other, trial.length(other) + which / 6 % 3 - 1))?;
             }
         }
     }
@@ -255,7 +267,7 @@ fn video_memory(trial: &mut Trial, random: &mut Random, part: usize) -> Result<(
         let mut unit = calm_unit(random);
         unit[0] = unit[0] & !4 | (part as u8 & 1) << 2;
         unit[4..6].copy_from_slice(&v.to_le_bytes());
-        unit[15] = [0, 1, 2, 3, 8, 9, 10, 11][part / 2];
+        unit[15] = BOARDS[part / 2];
         trial.set(Name::Unit, &unit);
         trial.call(&Call::read(0x2007))?;
         trial.set(Name::Unit, &unit);
@@ -336,9 +348,10 @@ fn lines_and_masks(trial: &mut Trial, random: &mut Random, part: usize) -> Resul
     Ok(())
 }
 
-/// A drawn line at every v.
+/// A drawn line at every v, on a board with two pages or with four.
 fn v_on_a_line(trial: &mut Trial, random: &mut Random, part: usize) -> Result<(), Stop> {
-    for v in (part as u16..0x8000).step_by(16) {
+    let boards = [&TWO_PAGES[..], &FOUR_PAGES][part % 2];
+    for v in (part as u16 / 2..0x8000).step_by(16) {
         if v / 16 % 64 == 0 {
             refill(trial, random);
             trial.set(Name::Oam, &[0xFF; 256]);
@@ -348,6 +361,7 @@ fn v_on_a_line(trial: &mut Trial, random: &mut Random, part: usize) -> Result<()
         unit[1] |= random.pick(&[0x08, 0x0A, 0x0A, 0x10]);
         unit[4..6].copy_from_slice(&v.to_le_bytes());
         unit[8] = (v / 16 % 8) as u8;
+        unit[15] = random.pick(boards);
         trial.set(Name::Unit, &unit);
         trial.call(&one_line(random))?;
     }
@@ -511,11 +525,13 @@ fn lengths_by_a_log(trial: &mut Trial, random: &mut Random, _: usize) -> Result<
         refill(trial, random);
         for record in [[0, 0x20, 0, 0], [1, 0x20, 0, random.byte()], [2, 0, 0, 0]] {
             for &name in Kind::Play.lent() {
-                let right = name.length();
-                for length in [0, 1, right / 2, right - 1, right, right + 1, right + SLACK] {
+                for which in 0..8 {
                     let [kind, high, _, last] = record;
                     trial.set(Name::Unit, &scenery::unit(random));
                     trial.set(Name::Log, &[kind, high, round, last]);
+                    let (right, most) = (trial.length(name), name.longest() + SLACK);
+                    let twice = most.min(2 * right);
+                    let length = [0, 1, right / 2, right - 1, right, right + 1, twice, most][which];
                     trial.call(&Call::play().with_length(name, length))?;
                 }
             }
@@ -533,14 +549,19 @@ fn easy_record(random: &mut Random, kind: usize) -> [u8; 4] {
     }
 }
 
-/// A record of one kind, and palette, line and colours at each length from 0 to beyond the right one.
+/// A record of one kind, and nametable RAM, palette, line and colours at each length from 0 to beyond the
+/// longest, on boards with two pages and with four.
 fn each_length_by_a_log(trial: &mut Trial, random: &mut Random, kind: usize) -> Result<(), Stop> {
     refill(trial, random);
-    for name in [Name::Palette, Name::Line, Name::Colours] {
-        for length in 0..=name.length() + SLACK {
-            trial.set(Name::Unit, &scenery::unit(random));
-            trial.set(Name::Log, &easy_record(random, kind));
-            trial.call(&Call::play().with_length(name, length))?;
+    for name in [Name::Nametables, Name::Palette, Name::Line, Name::Colours] {
+        for length in 0..=name.longest() + SLACK {
+            for boards in [&TWO_PAGES[..], &FOUR_PAGES] {
+                let mut unit = scenery::unit(random);
+                unit[15] = random.pick(boards);
+                trial.set(Name::Unit, &unit);
+                trial.set(Name::Log, &easy_record(random, kind));
+                trial.call(&Call::play().with_length(name, length))?;
+            }
         }
     }
     Ok(())
@@ -554,47 +575,8 @@ fn pairs_by_a_log(trial: &mut Trial, random: &mut Random, kind: usize) -> Result
             for which in 0..9 {
                 trial.set(Name::Unit, &scenery::unit(random));
                 trial.set(Name::Log, &easy_record(random, kind));
-                let call = Call::play().with_length(one, one.length() + which % 3 - 1);
-                trial.call(&call.with_length(other, other.length() + which / 3 - 1))?;
-            }
-        }
-    }
-    Ok(())
-}
-
-/// Every set of things wrong at once with a record of one kind, so that their order shows.
-fn order_of_refusals(trial: &mut Trial, random: &mut Random, kind: usize) -> Result<(), Stop> {
-    let memories = Kind::Play.lent().iter().copied().filter(|&name| name != Name::Log);
-    refill(trial, random);
-    for wrong in 0..64 {
-        let [drawing, malformed, outside, mislent, last_byte, cut] =
-            [0, 1, 2, 3, 4, 5].map(|bit| wrong >> bit & 1 == 1);
-        for name in memories.clone() {
-            for length in [name.length() - 1, name.length() + 1] {
-                let mut unit = unit_at_line(random, if drawing { 100 } else { 241 });
-                unit[1] |= 0x18;
-                if malformed {
-                    scenery::spoil(random, &mut unit);
-                }
-                let port = random.pick(&[4, 7]);
-                let [high, low] = match kind {
-                    2 => [0, random.below(3) as u8],
-                    _ => [if outside { 0x40 } else { 0x20 }, port],
-                };
-                let last = if last_byte { random.within(1, 255) as u8 } else { 0 };
-                let mut call = Call::play();
-                if mislent {
-                    call = call.with_length(name, length);
-                }
-                if cut {
-                    call = call.with_length(Name::Log, random.below(4));
-                }
-                trial.set(Name::Unit, &unit);
-                trial.set(Name::Log, &[kind as u8, high, low, last]);
-                trial.call(&call)?;
-                trial.set(Name::Unit, &unit);
-                trial.set(Name::Log, &[random.within(3, 255) as u8, high, low, last]);
-                trial.call(&call)?;
+                let call = Call::play().with_length(one, trial.length(one) + which % 3 - 1);
+                trial.call(&call.with_length(other, trial.length(other) + which / 3 - 1))?;
             }
         }
     }

@@ -6,6 +6,7 @@ use crate::scenery;
 use crate::systematic::refill;
 use crate::trial::{Stop, Trial};
 use crate::world::{Call, Kind, Name};
+use second::memory::nametable_length;
 use second::unit::Board;
 
 type Table = [u8; 256];
@@ -186,7 +187,7 @@ pub fn three_lengths(trial: &mut Trial, random: &mut Random, part: usize) -> Res
             let offs = [which % 3, which / 3 % 3, which / 9];
             let lent = kind.lent().iter().zip(offs);
             let call = lent
-                .fold(Call::new(kind), |call, (&name, off)| call.with_length(name, name.length() + off - 1));
+                .fold(Call::new(kind), |call, (&name, off)| call.with_length(name, name.longest() + off - 1));
             trial.call(&call)?;
         }
     }
@@ -195,7 +196,7 @@ pub fn three_lengths(trial: &mut Trial, random: &mut Random, part: usize) -> Res
 
 /// What port 7 writes into a quarter of nametable memory stands in the text of the quarter's page.
 pub fn quarters(trial: &mut Trial, random: &mut Random, part: usize) -> Result<(), Stop> {
-    let board = [0, 1, 2, 3, 8, 9, 10, 11][part];
+    let board = scenery::BOARDS[part];
     for quarter in 0..4u16 {
         refill(trial, random);
         let mut unit = [0; 16];
@@ -207,14 +208,24 @@ pub fn quarters(trial: &mut Trial, random: &mut Random, part: usize) -> Result<(
         for tile in tiles {
             trial.call(&Call::write(0x2007, tile))?;
         }
-        let board = Board::from_byte(board).expect("a board byte");
-        let start = second::text::quarter(board, quarter);
+        let start = start_of_quarter(board, quarter);
         let page = trial.of(Name::Nametables)[start..start + 1024].try_into().expect("a page");
         text(trial, random, &page, &table)?;
         let shown = tiles.map(|tile| table[usize::from(tile)]);
-        assert!(trial.of(Name::Rows)[..960] == shown, "the page of quarter {quarter} on {board:?}");
+        assert!(trial.of(Name::Rows)[..960] == shown, "the page of quarter {quarter} on board {board}");
     }
     Ok(())
+}
+
+/// Where the page of a quarter begins; the header says so too, and how much nametable RAM the board has.
+fn start_of_quarter(byte: u8, quarter: u16) -> usize {
+    let board = Board::from_byte(byte).expect("a board byte");
+    let start = second::text::quarter(board, quarter);
+    for again in [quarter, quarter + 4, quarter + 0xFFFC] {
+        assert_eq!(library::quarter(byte, again.into()), start, "quarter {again} on board {byte}");
+    }
+    assert_eq!(library::nametable_length(byte), nametable_length(board), "nametable RAM of board {byte}");
+    start
 }
 
 /// Pages, tables and rows that are drawn anew now and then, and calls there and back.
@@ -239,7 +250,7 @@ pub fn session(trial: &mut Trial, random: &mut Random, calls: usize) -> Result<(
         }
         let mut call = Call::new(random.pick(&[Kind::Text, Kind::Page]));
         if random.one_in(40) {
-            mislength(random, &mut call);
+            mislength(trial, random, &mut call);
         }
         trial.call(&call)?;
     }

@@ -2,7 +2,7 @@
 
 use crate::case::Case;
 use crate::scenery::{is_in_range, next_line, sprite_height};
-use crate::world::{Call, Kind, Name, World, KINDS};
+use crate::world::{has_four_pages, Call, Kind, Name, World, KINDS};
 use std::collections::BTreeMap;
 
 /// Why a session ends before its time.
@@ -65,10 +65,70 @@ impl Runs {
     }
 }
 
+/// What was done on boards with four pages.
+#[derive(Clone, Copy, Default)]
+pub struct FourPages {
+    /// Calls that were done, by kind; those of the text layer have no board.
+    pub done: [u64; KINDS],
+    /// Of these, accesses of port 7 in pages 2 and 3, and background pixels there of runs of one line.
+    pub far_accesses: u64,
+    pub far_pixels: u64,
+    /// Calls refused for nothing but nametable RAM of 2048 bytes, and with two pages of 4096.
+    pub given_two: u64,
+    pub two_given_four: u64,
+}
+
+impl FourPages {
+    fn add(&mut self, other: &FourPages) {
+        for (mine, theirs) in self.done.iter_mut().zip(&other.done) {
+            *mine += theirs;
+        }
+        self.far_accesses += other.far_accesses;
+        self.far_pixels += other.far_pixels;
+        self.given_two += other.given_two;
+        self.two_given_four += other.two_given_four;
+    }
+
+    /// Counts a call, done or refused; `before` is the record before it.
+    fn count(&mut self, call: &Call, number: usize, before: &[u8; 16]) {
+        let board = if call.kind == Kind::Fresh { call.byte } else { before[15] };
+        let nametables = call.lengths[Name::Nametables as usize];
+        let is_alone = call.lengths.iter().flatten().count() == 1;
+        match (has_four_pages(board), number, nametables) {
+            (true, 0, _) if call.kind.has_unit() => {
+                self.done[call.kind as usize] += 1;
+                self.far_accesses += u64::from(is_far_access(call, before));
+            }
+            (true, 2, Some(2048)) if is_alone => self.given_two += 1,
+            (false, 2, Some(4096)) if is_alone => self.two_given_four += 1,
+            _ => {}
+        }
+    }
+
+    /// Each kind of call on a unit was done, pages 2 and 3 were used, the other boards' length was refused.
+    pub fn are_whole(&self) -> bool {
+        let done = Kind::ALL.into_iter().filter(|kind| kind.has_unit()).map(|kind| self.done[kind as usize]);
+        let others = [self.far_accesses, self.far_pixels, self.given_two, self.two_given_four];
+        done.chain(others).all(|number| number > 0)
+    }
+}
+
+/// Whether v is in quarter 2 or 3, which with four pages are pages 2 and 3: cells from 2048.
+fn is_far(unit: &[u8; 16]) -> bool {
+    unit[5] & 0x08 != 0
+}
+
+/// A read or write of port 7 there.
+fn is_far_access(call: &Call, before: &[u8; 16]) -> bool {
+    let is_nametable = (0x20..0x3F).contains(&(before[5] & 0x3F));
+    matches!(call.kind, Kind::Read | Kind::Write) && call.address % 8 == 7 && is_nametable && is_far(before)
+}
+
 /// What has been done, by kind of call and number answered.
 #[derive(Clone, Default)]
 pub struct Tally {
     pub answers: [[u64; NUMBERS]; KINDS],
+    pub four_pages: FourPages,
     pub lines_run: u64,
     /// Runs that were done, by their reason to stop.
     pub runs: [Runs; REASONS],
@@ -96,6 +156,7 @@ impl Tally {
         for (mine, theirs) in self.answers.iter_mut().flatten().zip(other.answers.iter().flatten()) {
             *mine += theirs;
         }
+        self.four_pages.add(&other.four_pages);
         self.lines_run += other.lines_run;
         for (mine, theirs) in self.runs.iter_mut().zip(&other.runs) {
             mine.add(theirs);
@@ -144,6 +205,15 @@ impl<'a> Trial<'a> {
         self.library.of(Name::Unit)[..16].try_into().unwrap()
     }
 
+    /// The right length of a memory for the unit as it stands, and wrong ones.
+    pub fn length(&self, name: Name) -> usize {
+        name.length(self.library.board())
+    }
+
+    pub fn wrong_lengths(&self, name: Name) -> Vec<usize> {
+        name.wrong_lengths(self.library.board())
+    }
+
     /// A memory, which is the same on both sides.
     pub fn of(&self, name: Name) -> &[u8] {
         self.library.of(name)
@@ -187,6 +257,7 @@ impl<'a> Trial<'a> {
     fn count(&mut self, call: &Call, answer: u64, before: &[u8; 16]) {
         let (tally, number) = (&mut self.tally, (answer & 255) as usize);
         tally.answers[call.kind as usize][number] += 1;
+        tally.four_pages.count(call, number, before);
         if number != 0 {
             return;
         }
@@ -227,7 +298,11 @@ impl<'a> Trial<'a> {
         if drawn {
             let line = &self.library.of(Name::Line)[..256];
             tally.sprite_pixels += line.iter().filter(|&&p| p >= 16).count() as u64;
-            tally.background_pixels += line.iter().filter(|&&p| p > 0 && p < 16).count() as u64;
+            let background = line.iter().filter(|&&p| p > 0 && p < 16).count() as u64;
+            tally.background_pixels += background;
+            if has_four_pages(before[15]) && is_far(before) {
+                tally.four_pages.far_pixels += background;
+            }
             self.count_overflow(before);
         }
     }

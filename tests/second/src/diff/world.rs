@@ -47,17 +47,43 @@ impl Name {
         ][self as usize]
     }
 
-    pub fn length(self) -> usize {
-        LENGTHS[self as usize]
+    /// The right length, of nametable RAM the longest that is right for a board.
+    pub fn longest(self) -> usize {
+        LONGEST[self as usize]
     }
+
+    /// The right length for a unit whose record has that board byte; only nametable RAM goes by it.
+    pub fn length(self, board: u8) -> usize {
+        match self {
+            Nametables if !has_four_pages(board) => TWO_PAGES,
+            _ => self.longest(),
+        }
+    }
+
+    /// Wrong lengths for that board: near the right one and far from it, and for nametable RAM the one of the
+    /// other boards.
+    pub fn wrong_lengths(self, board: u8) -> Vec<usize> {
+        let right = self.length(board);
+        let others = (self == Nametables).then_some(TWO_PAGES + FOUR_PAGES - right);
+        [right - 1, right + 1, 0, self.longest() + SLACK].into_iter().chain(others).collect()
+    }
+}
+
+/// Lengths of nametable RAM: of boards with two pages, and with four.
+const TWO_PAGES: usize = 2048;
+const FOUR_PAGES: usize = 4096;
+
+/// Whether a board byte, well formed or not, has the wiring with four pages.
+pub fn has_four_pages(board: u8) -> bool {
+    board & 7 == 4
 }
 
 pub const NAMES: usize = 13;
 
-/// The right lengths; a log may be longer than the record at its front.
-pub const LENGTHS: [usize; NAMES] = [16, 4096, 4096, 2048, 256, 32, 256, 512, 256, 4, 1024, 960, 256];
+/// A log may be longer than the record at its front.
+const LONGEST: [usize; NAMES] = [16, 4096, 4096, FOUR_PAGES, 256, 32, 256, 512, 256, 4, 1024, 960, 256];
 
-/// Bytes beyond the right length that a call may be lent.
+/// Bytes beyond the longest right length that a call may be lent.
 pub const SLACK: usize = 64;
 const GUARD: usize = 32;
 
@@ -94,7 +120,12 @@ pub struct World(pub [Memory; NAMES]);
 
 impl World {
     pub fn new() -> World {
-        World(LENGTHS.map(Memory::new))
+        World(LONGEST.map(Memory::new))
+    }
+
+    /// The board byte of the unit's record.
+    pub fn board(&self) -> u8 {
+        self.of(Unit)[15]
     }
 
     pub fn of(&self, name: Name) -> &[u8] {
@@ -172,14 +203,15 @@ pub struct Call {
     pub most: u16,
     pub reason: u8,
     pub scanline: u16,
-    pub lengths: [usize; NAMES],
+    /// Lengths that are lent instead of the right ones.
+    pub lengths: [Option<usize>; NAMES],
 }
 
 macro_rules! performed {
     ($side:path, $layer:path, $call:expr, $world:expr) => {{
         use $layer as layer;
         use $side as side;
-        let (call, lengths) = ($call, $call.lengths);
+        let (call, lengths) = ($call, $call.lent_to($world));
         let [unit, left, right, nametables, oam, palette, line, colours, page, log, screen, rows, table] =
             &mut $world.0;
         let unit = &mut unit.bytes_mut()[..lengths[0]];
@@ -216,7 +248,7 @@ macro_rules! performed {
 
 impl Call {
     pub fn new(kind: Kind) -> Call {
-        Call { kind, address: 0x2000, byte: 0, most: 0, reason: RUN_ALL, scanline: 0, lengths: LENGTHS }
+        Call { kind, address: 0x2000, byte: 0, most: 0, reason: RUN_ALL, scanline: 0, lengths: [None; NAMES] }
     }
 
     pub fn fresh(board: u8) -> Call {
@@ -256,8 +288,13 @@ impl Call {
     }
 
     pub fn with_length(mut self, name: Name, length: usize) -> Call {
-        self.lengths[name as usize] = length;
+        self.lengths[name as usize] = Some(length);
         self
+    }
+
+    /// The lengths that are lent, right ones by the board of the unit as it stands.
+    fn lent_to(&self, world: &World) -> [usize; NAMES] {
+        Name::ALL.map(|name| self.lengths[name as usize].unwrap_or(name.length(world.board())))
     }
 
     pub fn on_library(&self, world: &mut World) -> u64 {
@@ -286,7 +323,7 @@ impl Call {
 
 /// The way back: the page's text is the rows, and no tile of it is counted.
 fn gives_back(world: &World, text: fn(&[u8], &[u8], &mut [u8]) -> u64) -> bool {
-    let [page, rows, table] = [Screen, Rows, Table].map(|name| &world.of(name)[..name.length()]);
+    let [page, rows, table] = [Screen, Rows, Table].map(|name| &world.of(name)[..name.longest()]);
     let mut back: Vec<u8> = rows.iter().map(|&byte| !byte).collect();
     text(page, table, &mut back) == 0 && back == rows
 }

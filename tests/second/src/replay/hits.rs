@@ -29,7 +29,7 @@ fn columns(machine: &Machine) -> Vec<usize> {
     if !(y + 1..=y + TALLEST).contains(&machine.next_line()) {
         return Vec::new();
     }
-    let mut alone = Machine { ..*machine };
+    let mut alone = machine.clone();
     alone.unit[1] &= !BACKGROUND;
     alone.oam[4..].fill(0xFF);
     alone.run(1, RUN_ALL);

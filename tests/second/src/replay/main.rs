@@ -9,15 +9,17 @@
 //! that wait for a sprite 0 hit, whose line is compared with the capture, and as a log by `ppu_play`.
 //! Before each line both sides search it for overflow, and the line must set bit 5 if the search does.
 //! After each picture the text of its four quarters must be what a table of the tiles themselves gives.
+//! On a board with four pages each line is drawn again with each page in the place of each other.
 
 mod hits;
+mod pages;
 
 use hits::{Hits, HIT};
 use second::calls::{RUN_ALL, UNTIL_HIT, UNTIL_NMI};
 use second::log::Machine;
 use second::memory::palette_cell;
 use second::text::{self, PAGE, TEXT};
-use second::unit::{Board, Unit, LAST_LINE};
+use second::unit::{Board, Unit, Wiring, LAST_LINE};
 use std::fs;
 use std::process::ExitCode;
 
@@ -37,6 +39,9 @@ const OVERFLOW: u8 = 0x20;
 
 /// The capture in which runs must stop at NMI, and at hits on a line that it knows and on one of some lines.
 const HITS: &str = "hit8";
+
+/// The capture that must show each of four pages where it is not like any other.
+const FOUR_PAGES: &str = "scroll2_w4";
 
 /// The byte that stands for a tile without a character.
 const SPACE: u8 = 32;
@@ -154,7 +159,7 @@ impl Library {
 
     /// A quarter's 1024 bytes as port 7 reads them; the unit is a copy and not drawing.
     fn quarter(&self, quarter: u16) -> Vec<u8> {
-        let mut copy = Library(Machine { ..self.0 });
+        let mut copy = Library(self.0.clone());
         let control = copy.0.unit[0];
         copy.read(0x2002);
         copy.write(0x2000, control & !4); // v rises by one
@@ -216,8 +221,12 @@ impl Capture {
         log
     }
 
+    fn board(&self) -> Board {
+        Board::from_byte(self.unit[15]).expect("a board byte")
+    }
+
     fn start(&self) -> Machine {
-        let mut machine = Machine::new(0);
+        let mut machine = Machine::new(self.board());
         machine.unit.copy_from_slice(&self.unit);
         machine.left.copy_from_slice(&self.patterns[..4096]);
         machine.right.copy_from_slice(&self.patterns[4096..]);
@@ -238,6 +247,7 @@ struct Tally {
     met_nmi: usize,
     met_hit: usize,
     hits: hits::Tally,
+    pages: pages::Tally,
     pictures: usize,
     /// Pages of text compared.
     texts: usize,
@@ -334,7 +344,7 @@ struct Replay<'a> {
     tally: Tally,
 }
 
-impl Replay<'_> {
+impl<'a> Replay<'a> {
     fn read(&mut self, address: u16, captured: u8) -> Result<u64, String> {
         let library = self.library.read(address);
         let second = u64::from(self.second.read(address));
@@ -390,7 +400,11 @@ impl Replay<'_> {
         let (line, unit) = (usize::from(self.second.next_line()), self.second.unit);
         self.begun += usize::from(line == 0);
         let looked = self.search(line as u16)?;
-        let word = self.captured_line(line).map(|captured| hits::word(&self.second, captured));
+        let captured = self.captured_line(line);
+        let word = captured.map(|captured| hits::word(&self.second, captured));
+        if let Some(captured) = captured.filter(|_| self.capture.board().wiring == Wiring::FourPages) {
+            self.tally.pages.take(&self.second, captured);
+        }
         let (library, second) = (self.library.run(1, RUN_ALL), u64::from(self.second.run(1, RUN_ALL)));
         if library != second || self.library.0 != self.second {
             return Err(format!(
@@ -412,7 +426,7 @@ impl Replay<'_> {
     }
 
     /// The pixel numbers that the capture has of a line of the present picture; none of the first picture.
-    fn captured_line(&self, line: usize) -> Option<&[u8]> {
+    fn captured_line(&self, line: usize) -> Option<&'a [u8]> {
         let picture = self.begun.checked_sub(1).filter(|&picture| picture > 0 && line < HEIGHT)?;
         let at = (picture * HEIGHT + line) * WIDTH;
         self.capture.pictures.get(at..at + WIDTH)
@@ -539,7 +553,7 @@ fn replay(capture: &Capture) -> Result<Tally, String> {
 }
 
 fn print(name: &str, tally: &Tally, due: usize) {
-    let Tally { colours, overflow, hits, .. } = tally;
+    let Tally { colours, overflow, hits, pages, .. } = tally;
     println!(
         "  {name}: {} records, {} lines, {} answers, {} of {due} pictures, {} pages of text; {} finished colours: \
          {} changed by greyscale, {} by emphasis, {} by backdrop override",
@@ -572,6 +586,10 @@ fn print(name: &str, tally: &Tally, due: usize) {
          leaves: {}, on one of some lines: {}, without a hit: {}",
         tally.met_nmi, tally.met_hit, hits.known, hits.among, hits.without
     );
+    if name == FOUR_PAGES {
+        let lines = pages.told_apart();
+        println!("    lines that tell page 0, 1, 2, 3 from each other page: {lines:?} or more");
+    }
 }
 
 /// All that is due of a capture was compared, and seen where it must be.
@@ -583,6 +601,7 @@ fn is_whole(name: &str, tally: &Tally, due: usize) -> bool {
         && tally.overflow.searches >= due * HEIGHT
         && (name != HITS || tally.met_nmi > 0 && tally.hits.are_of_each_kind())
         && (name != CROWDS || tally.overflow.is_of_each_kind())
+        && (name != FOUR_PAGES || tally.pages.told_apart().iter().all(|&lines| lines > 0))
         && (name != ALL_COLOURS || tally.colours.are_of_each_kind())
 }
 
