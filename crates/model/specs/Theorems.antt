@@ -306,9 +306,9 @@ pub record BoardPages (d : Board) : Type 0 where
 
 -- board codes: five wirings, with and without 8 for writable pattern memory, and no others; 4 and 12 have four pages; every board has its code
 pub record BoardCodes : Type 0 where
-  pub taken : (n : ℕ) → n < 16 → n % 8 < 5 → freshCall n ≡ made (fresh (boardAt n))
-  pub refused : (n : ℕ) → (n < 16 → n % 8 < 5 → ⊥) → freshCall n ≡ unmade 3
-  pub wirings : map (λ n. boardAt n .wiring) (0 ∷ 1 ∷ 2 ∷ 3 ∷ 4 ∷ 8 ∷ 9 ∷ 10 ∷ 11 ∷ 12 ∷ [])
+  pub code-taken : (n : ℕ) → n < 16 → n % 8 < 5 → freshCall n ≡ made (fresh (boardAt n))
+  pub code-refused : (n : ℕ) → (n < 16 → n % 8 < 5 → ⊥) → freshCall n ≡ unmade 3
+  pub code-wirings : map (λ n. boardAt n .wiring) (0 ∷ 1 ∷ 2 ∷ 3 ∷ 4 ∷ 8 ∷ 9 ∷ 10 ∷ 11 ∷ 12 ∷ [])
       ≡ Horizontal ∷ Vertical ∷ FirstPage ∷ SecondPage ∷ FourPages ∷ Horizontal ∷ Vertical ∷ FirstPage ∷ SecondPage ∷ FourPages ∷ []
   pub code-back : (d : Board) → boardAt (boardByte d) ≡ d
   pub code-ok : (d : Board) → (boardByte d < 16) × (boardByte d % 8 < 5)
