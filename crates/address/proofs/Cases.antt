@@ -1,6 +1,6 @@
 -- The ways of each function, for `search`.
 use Prim.Native.Nat.{ℕ, _+_, _-_, _*_, _/_, _%_, _<_, _≤_}
-use mathlib.Core.Path.{_≡_, sym, ap, _∙_}
+use mathlib.Core.Path.{_≡_, refl, sym, ap, _∙_}
 use mathlib.Core.Bool.{Bool, true, false}
 use mathlib.Core.List.{List, [], _∷_}
 use native.Mathlib.Nat.{add-sub-cancel-left}
@@ -10,12 +10,24 @@ use lib.ListN.{length, getD, take, drop}
 use borrow.Author.Tests.{eq-eqb, ne-eqb, lt-ltb, le-ltb}
 use Rattle.model.specs.declared.Board.{Board}
 use Rattle.model.specs.declared.Wiring.{Wiring}
+use Rattle.model.specs.declared.Wiring.the-variants.{Horizontal, Vertical, FirstPage, SecondPage, FourPages}
 use Rattle.model.specs.declared.Place.{Place}
 use Rattle.model.specs.declared.Place.the-variants.{Pattern, Nametable, Palette}
 use Rattle.model.specs.Unit.{nametablesFor, nametableLength}
 use Rattle.model.proofs.Address.{page-small}
 use Rattle.address.proofs.Table.{at2}
 use Rattle.model.specs.Address.{wiringNumber, pageAt, cellOf, paletteCell, placeOf, tileIn, tilePart, quarterIn, quarterPart}
+
+-- nametable RAM by the wiring's number
+twice : (w : Wiring) → 2048 + wiringNumber w / 4 * 2048 ≡ nametablesFor w
+twice Horizontal = refl
+twice Vertical = refl
+twice FirstPage = refl
+twice SecondPage = refl
+twice FourPages = refl
+
+pub length-1 : (d : Board) (w : Wiring) (n r : ℕ) → w ≡ d .wiring → n ≡ wiringNumber w → r ≡ 2048 + n / 4 * 2048 → r ≡ nametableLength d
+length-1 d w n r e f g = g ∙ ap (λ (k : ℕ). 2048 + k / 4 * 2048) f ∙ twice w ∙ ap nametablesFor e
 
 -- the table's rule, once over all entries
 abbrev pub pages : List (List ℕ)

@@ -31,24 +31,13 @@ pub fn wiring_number(w: Wiring) -> u8
     }
 }
 
-// How long nametable RAM is, by the wiring, and by the board.
-fn nametables_for(w: Wiring) -> usize
-    ensures { λ r. ⌜ r ≡ nametablesFor w ⌝ }
-{
-    match w {
-        Wiring::Horizontal => 2048,
-        Wiring::Vertical => 2048,
-        Wiring::FirstPage => 2048,
-        Wiring::SecondPage => 2048,
-        Wiring::FourPages => 4096,
-    }
-}
-
+// How long the board's nametable RAM is: twice as long for wiring 4, whose number alone has bit 2.
 pub fn nametable_length(board: Board) -> usize
     ensures { λ r. ⌜ r ≡ nametableLength board ⌝ }
 {
     let w = board.wiring;
-    nametables_for(w)
+    let n = wiring_number(w);
+    2048 + (n >> 2) as usize * 2048
 }
 
 // An entry of the page table.
