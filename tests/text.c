@@ -440,7 +440,12 @@ static void pages_of_quarters(void)
         for (unsigned quarter = 0; quarter < 1024; quarter++)
             EXPECT(ppu_quarter(board, quarter), 1024 * page_of(board, quarter % 4));
     }
-    part("ppu_nametable_length of each board, and ppu_quarter's page of each quarter");
+    for (unsigned byte = 0; byte < 256; byte++)
+        for (unsigned quarter = 0; quarter < 4; quarter++) {
+            at = byte;
+            EXPECT(ppu_quarter((uint8_t)byte, quarter) + 1024 <= ppu_nametable_length((uint8_t)byte), 1);
+        }
+    part("ppu_nametable_length of each board, ppu_quarter's page of each quarter, and within that length for every byte");
 }
 
 /* what port 7 stores at $2000 + 1024 x quarter + k is at ppu_quarter + k of nametable RAM; 4 to 7 are 0 to 3 again */
