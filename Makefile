@@ -5,7 +5,7 @@
 #   make install      puts include/ppu.h, lib/libppu.a, lib/libppu-text.a, lib/pkgconfig/ppu.pc and ppu-text.pc and bin/ppu-player under PREFIX,
 #                     and the tools, if there are any; a program that uses both archives links by pkg-config --libs ppu ppu-text
 #   make uninstall    takes those files away again
-#   make examples     target/examples/minimal, split and text and, where SDL2 is, target/examples/viewer
+#   make examples     target/examples/minimal, split, two and text and, where SDL2 is, target/examples/viewer
 #   make test         tests/run
 #   make clean        removes what was compiled from C; archive, player and proofs stay
 #
@@ -62,7 +62,7 @@ install: all tools
 uninstall:
 	rm -f $(installed)
 
-examples: $(addprefix target/examples/,minimal split text) $(sdl:sdl2=target/examples/viewer)
+examples: $(addprefix target/examples/,minimal split two text) $(sdl:sdl2=target/examples/viewer)
 	@$(if $(sdl),,echo "make: no viewer: SDL2 is not installed (Debian: libsdl2-dev)")
 
 target/examples/%: examples/%.c $(wildcard examples/*.h) include/ppu.h $(ARCHIVE)

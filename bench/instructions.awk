@@ -1,7 +1,7 @@
 # The tables of instructions. First file: the pieces of work in their order, as `bench count` prints them: kind, name, calls or lines.
 # Then callgrind's part for each, with names written out: where a function is called, the line after `calls=` has what the call cost.
-# drawers: ppu plain_gcc table_gcc ..; a drawer's functions are ppu_run, ppu_read, .. A table without work is left out. Those of the archive before,
-# if there is one, are before_run, before_read, .. and perhaps before_line, and have tables of their own.
+# drawers: ppu plain_gcc table_gcc .., or ppu ppu_shared; a drawer's functions are ppu_run, ppu_read, .. A table without work is left out. Those of the
+# archive before, if there is one, are before_run, before_read, .. and perhaps before_line, and have tables of their own.
 BEGIN {
     FS = "\t"
     count = split(drawers, drawer, " ")
@@ -88,6 +88,8 @@ END {
     table("screen", "screen", "instructions a line, one to a call", count)
     table("call", "call", "instructions a call", count)
     table("page", "call", "instructions a page", count)
+    table("shared call", "call", "instructions a call, plain and shared", count)
+    table("shared line", "call", "instructions a line of a run, plain and shared", count)
     reasons()
     table("run", "lines a call", "instructions a line of `ppu_run`, pictures with about three sprites a line", 1)
     beside("frame", "screen", "instructions a line in runs of a frame")

@@ -19,14 +19,14 @@ static _Alignas(64) Machine m;
 static uint8_t start[PPU_RECORD_LENGTH];
 static unsigned lines;
 
-static void set_word(uint8_t *record, int at, unsigned number)
+static inline void set_word(uint8_t *record, int at, unsigned number)
 {
     record[at] = (uint8_t)(number % 256);
     record[at + 1] = (uint8_t)(number / 256);
 }
 
 /* scattered tiles, nametables, palette and page, no sprite on the screen, and a warmed-up unit that is scrolled to somewhere */
-static void set_screen(unsigned control, unsigned mask, unsigned first, unsigned count)
+static inline void set_screen(unsigned control, unsigned mask, unsigned first, unsigned count)
 {
     seed = 1;
     scatter((uint8_t *)&m, sizeof m);
@@ -44,7 +44,7 @@ static void set_screen(unsigned control, unsigned mask, unsigned first, unsigned
     memcpy(m.unit, start, sizeof start);
 }
 
-static void set_sprite(int i, unsigned y, unsigned attribute, unsigned x)
+static inline void set_sprite(int i, unsigned y, unsigned attribute, unsigned x)
 {
     m.oam[4 * i] = (uint8_t)y;
     m.oam[4 * i + 1] = (uint8_t)any(256);
@@ -52,24 +52,24 @@ static void set_sprite(int i, unsigned y, unsigned attribute, unsigned x)
     m.oam[4 * i + 3] = (uint8_t)x;
 }
 
-static void screen_off(void) { set_screen(0x10, 0x00, 0, 240); }
+static inline void screen_off(void) { set_screen(0x10, 0x00, 0, 240); }
 
 /* v is at a mirror in the palette, and the one colour is emphasised */
-static void backdrop_override(void)
+static inline void backdrop_override(void)
 {
     set_screen(0x10, 0x40, 0, 240);
     set_word(start, PPU_AT_V, 0x3F18);
 }
 
 /* lines that draw nothing: one of them, with mask bits 3 and 4 set or clear, and all 20 from the one after NMI on */
-static void blank_on(void) { set_screen(0x10, 0x1E, 245, 1); }
-static void blank_off(void) { set_screen(0x10, 0x00, 245, 1); }
-static void vertical_blank(void) { set_screen(0x10, 0x1E, 242, 20); }
+static inline void blank_on(void) { set_screen(0x10, 0x1E, 245, 1); }
+static inline void blank_off(void) { set_screen(0x10, 0x00, 245, 1); }
+static inline void vertical_blank(void) { set_screen(0x10, 0x1E, 242, 20); }
 
-static void background_only(void) { set_screen(0x10, 0x0A, 0, 240); }
+static inline void background_only(void) { set_screen(0x10, 0x0A, 0, 240); }
 
 /* letters of one colour on an empty ground, one palette, no scroll; sprites are on and none is on the screen */
-static void text(void)
+static inline void text(void)
 {
     set_screen(0x10, 0x1E, 0, 240);
     memset(start + PPU_AT_V, 0, 5);
@@ -83,7 +83,7 @@ static void text(void)
 }
 
 /* 64 sprites of eight lines over 168 lines */
-static void three_sprites(void)
+static inline void three_sprites(void)
 {
     set_screen(0x10, 0x1E, 32, 168);
     for (int i = 0; i < 64; i++)
@@ -92,7 +92,7 @@ static void three_sprites(void)
 
 /* The same sprites from the line after NMI on, with NMI on and the hit of the picture before in the status, which line 261 clears. Sprite 0 is
    opaque all over and covers the lines from y + 1 on, or none. */
-static void from_nmi(unsigned y, unsigned count)
+static inline void from_nmi(unsigned y, unsigned count)
 {
     three_sprites();
     start[PPU_AT_CONTROL] |= 0x80;
@@ -104,11 +104,11 @@ static void from_nmi(unsigned y, unsigned count)
 }
 
 /* up to the next NMI, with no hit; up to the hit, through lines 242 to 261 and 0 to 31 */
-static void whole_frame(void) { from_nmi(255, 262); }
-static void up_to_hit(void) { from_nmi(30, 20 + 32); }
+static inline void whole_frame(void) { from_nmi(255, 262); }
+static inline void up_to_hit(void) { from_nmi(30, 20 + 32); }
 
 /* eight rows of eight, on lines 81 to 144 */
-static void eight_sprites(void)
+static inline void eight_sprites(void)
 {
     set_screen(0x10, 0x1E, 81, 64);
     for (int i = 0; i < 64; i++)
@@ -116,7 +116,7 @@ static void eight_sprites(void)
 }
 
 /* eight rows of eight, sixteen lines high, flipped either way, both ways or not, on lines 81 to 208 */
-static void tall_sprites(void)
+static inline void tall_sprites(void)
 {
     set_screen(0x30, 0x1E, 81, 128);
     for (int i = 0; i < 64; i++)
@@ -126,19 +126,19 @@ static void tall_sprites(void)
 /* Fifteen lines that have all of `count` sprites of 8x16 in range and show eight of them; they stand in OAM from place `at` on, the rest is $FF.
    What differs is the search for overflow: past the first eight it looks at all the rest, past the last eight nothing is left, and a ninth sets
    the bit at once. */
-static void only_sprites(int at, int count)
+static inline void only_sprites(int at, int count)
 {
     set_screen(0x30, 0x1E, 81, 15);
     for (int i = at; i < at + count; i++)
         set_sprite(i, 80, any(4) + 32 * any(8), any(256));
 }
 
-static void eight_first(void) { only_sprites(0, 8); }
-static void eight_last(void) { only_sprites(56, 8); }
-static void nine_first(void) { only_sprites(0, 9); }
+static inline void eight_first(void) { only_sprites(0, 8); }
+static inline void eight_last(void) { only_sprites(56, 8); }
+static inline void nine_first(void) { only_sprites(0, 9); }
 
 /* scattered sprites too, a unit that could be any, and all in emphasised greys */
-static void random_screen(void)
+static inline void random_screen(void)
 {
     set_screen(0x08, 0xBF, 0, 240);
     scatter(m.oam, sizeof m.oam);

@@ -1,4 +1,4 @@
-/* What bench.c and text.c share: the clock, and a row of numbers for memory that could be any. */
+/* What bench.c, two.c and text.c share: the clock, and a row of numbers for memory that could be any. */
 #ifndef SHARED_H
 #define SHARED_H
 

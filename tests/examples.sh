@@ -97,17 +97,17 @@ test_minimal() {
     say "examples/minimal.c by ${compilers[*]} prints the $(wc -l <"$out/wanted") rows that are reckoned${under[0]:+, under valgrind}"
 }
 
-# altered_split SED: $out/altered is examples/split.c with this change
-altered_split() {
-    sed "$1" examples/split.c >"$out/altered.c"
-    ! cmp -s examples/split.c "$out/altered.c" || fail "examples/split.c has no place for $1"
+# altered EXAMPLE SED: $out/altered is this example with this change
+altered() {
+    sed "$2" "examples/$1.c" >"$out/altered.c"
+    ! cmp -s "examples/$1.c" "$out/altered.c" || fail "examples/$1.c has no place for $2"
     # shellcheck disable=SC2046 # the flags are words
-    "${compilers[0]}" -std=c99 -O1 -iquote examples "$out/altered.c" $(pkg-config --cflags --libs ppu) -o "$out/altered" || fail "examples/split.c with $1"
+    "${compilers[0]}" -std=c99 -O1 -iquote examples "$out/altered.c" $(pkg-config --cflags --libs ppu) -o "$out/altered" || fail "examples/$1.c with $2"
 }
 
 # split_seen WHERE SED: with this change the picture is another one there, and the reckoning says so
 split_seen() {
-    altered_split "$2"
+    altered split "$2"
     "$out/altered" >"$out/split.ppm" || fail "examples/split.c with $2: no picture"
     if look split "$out/split.ppm" 100 2>"$out/errors"; then fail "the reckoning does not see $2"; fi
     grep -q ": $1: " "$out/errors" || fail "examples/split.c with $2, not seen in $1: $(cat "$out/errors")"
@@ -116,7 +116,7 @@ split_seen() {
 # split_ends TEXT SED: with this change it ends with status 1 and this line
 split_ends() {
     local status=0
-    altered_split "$2"
+    altered split "$2"
     "$out/altered" >"$out/split.ppm" 2>"$out/errors" || status=$?
     if [ "$status" != 1 ] || [ "$(<"$out/errors")" != "split: $1" ]; then fail "examples/split.c with $2: status $status, $(cat "$out/errors")"; fi
 }
@@ -146,6 +146,144 @@ test_split() {
     split_ends "no unit of board 7" 's/PPU_VERTICAL/7/g'
     if "$out/split-${compilers[0]}" >/dev/full; then fail "split on a full device ends with 0"; fi
     say "examples/split.c by ${compilers[*]} draws what is reckoned for the scrolls ${scrolls[*]}, and ends with 1 where a call fails or nothing hits"
+}
+
+pictures() { python3 tests/pictures.py "$@"; }
+
+# two_draws NAME JOB CHR LEFT RIGHT [BOARD BOARD]: what the example draws of these logs is right by this job of tests/pictures.py, whose words behind
+# the picture are in `words`; that of the next compiler is the same.
+two_draws() {
+    local drawn=$out/$1-$compiler.ppm right=$out/$1-${compilers[0]}.ppm
+    "$out/two-$compiler" "${@:3}" >"$drawn" || fail "two ${*:3} by $compiler"
+    if [ "$drawn" = "$right" ]; then pictures "$2" "$drawn" "${words[@]}"; else cmp "$drawn" "$right"; fi || fail "two ${*:3} by $compiler"
+}
+
+# two_worked_out NAME LEFT RIGHT [CHR]: both halves are as worked out
+two_worked_out() {
+    local words=("${4:-examples/picture.chr}" "$2" "$3")
+    two_draws "$1" two "${words[@]}"
+}
+
+# two_captured LEFT RIGHT: these captures, played so on their one cartridge, end with the emulator's pictures
+two_captured() {
+    local words=("$1" "$2")
+    cmp "tests/captures/$1.chr" "tests/captures/$2.chr" || fail "$1 and $2 have not one cartridge"
+    two_draws "$1-$2" two-captured "tests/captures/$1.chr" "$out/captured/$1.log" "$out/captured/$2.log" \
+        $(($(cat "$out/captured/$1.board") & 7)) $(($(cat "$out/captured/$2.board") & 7))
+}
+
+# two_seen SED: with this change the picture is another one
+two_seen() {
+    altered two "$1"
+    "$out/altered" examples/picture.chr examples/picture.log "$out/later.log" >"$out/two.ppm" || fail "examples/two.c with $1: no picture"
+    ! cmp -s "$out/two.ppm" "$out/later-${compilers[0]}.ppm" || fail "$1 in examples/two.c is not seen"
+}
+
+# two_refuses TEXT PROGRAM WORD..: it ends with status 1 and this line, and prints no picture
+two_refuses() {
+    local status=0
+    "${@:2}" >"$out/printed" 2>"$out/errors" || status=$?
+    if [ "$status" != 1 ] || [ -s "$out/printed" ] || [ "$(<"$out/errors")" != "two: $1" ]; then fail "${*:2}: status $status, $(cat "$out/errors")"; fi
+    refused=$((refused + 1))
+}
+
+# What two.c cannot play: no log and no cartridge, logs that are cut or refused, boards that are none or have writable pattern memory.
+test_two_refusals() {
+    local refused=0 two=$out/two-${compilers[0]} chr=examples/picture.chr log=examples/picture.log bad=$out/bad name board length
+    local usage="usage: two CARTRIDGE.chr LEFT.log RIGHT.log [LEFT_BOARD RIGHT_BOARD]"
+    two_refuses "$usage" "$two"
+    two_refuses "$usage" "$two" "$chr" "$log"
+    two_refuses "$usage" "$two" "$chr" "$log" "$log" 1
+    two_refuses "$usage" "$two" "$chr" "$log" "$log" 1 1 1
+    for name in "$out/none: No such file or directory" "$out: Is a directory"; do
+        two_refuses "$name" "$two" "${name%%: *}" "$log" "$log"
+        two_refuses "$name" "$two" "$chr" "${name%%: *}" "$log"
+        two_refuses "$name" "$two" "$chr" "$log" "${name%%: *}"
+    done
+    for length in 0 4096 8191 8193 16384; do
+        head -c "$length" /dev/zero >"$bad"
+        two_refuses "$bad: a cartridge is 8192 bytes, the left pattern table and the right one" "$two" "$bad" "$log" "$log"
+    done
+    for board in 8 9 10 11 12; do
+        two_refuses "$log: board $board has writable pattern memory, which two units cannot share" "$two" "$chr" "$log" examples/second.log "$board" 1
+        two_refuses "examples/second.log: board $board has writable pattern memory, which two units cannot share" "$two" "$chr" "$log" examples/second.log 1 "$board"
+    done
+    for board in 5 6 7 13 15 16 255 256 265; do
+        two_refuses "no board has the number $board" "$two" "$chr" "$log" "$log" 1 "$board"
+        two_refuses "no board has the number $board" "$two" "$chr" "$log" "$log" "$board" 1
+    done
+    for length in 1 2 3; do
+        { cat "$log" && head -c "$length" "$log"; } >"$bad"
+        two_refuses "$bad: record $(($(stat -c %s "$log") / 4 + 1)) is cut short" "$two" "$chr" "$log" "$bad"
+    done
+    for name in '\x03\x20\x02\x00 is none' '\x00\x20\x02\x01 is none' '\x02\x00\x01\x01 is none' '\x01\x40\x00\x00 was refused with 1' '\x00\x1f\xff\x00 was refused with 1'; do
+        printf '\x02\x01\x06\x00%b' "${name%% *}" >"$bad"
+        two_refuses "$bad: record 2 ${name#* }" "$two" "$chr" "$bad" "$log"
+        two_refuses "$bad: record 2 ${name#* }" "$two" "$chr" "$log" "$bad"
+    done
+    printf '\x02\x01\x06\x00\x01\x20\x01\x1e\x02\x00\x09\x00\x01\x20\x07\x00' >"$bad" # port 7 on line 9, drawing
+    two_refuses "$bad: record 4 was refused with 4" "$two" "$chr" "$log" "$bad"
+    : >"$bad"
+    two_refuses "$bad: it draws no whole picture" "$two" "$chr" "$log" "$bad"
+    printf '\x02\x00\xef\x00' >"$bad" # lines 0 to 238
+    two_refuses "$bad: it draws no whole picture" "$two" "$chr" "$bad" "$log"
+    altered two 's/ppu_shared_run(which,/ppu_shared_run(2,/'
+    two_refuses "$log: record 1 was refused with 7" "$out/altered" "$chr" "$log" "$log"
+    altered two 's/PPU_RUN_ALL, MEMORY/3, MEMORY/'
+    two_refuses "$log: record 1 was refused with 5" "$out/altered" "$chr" "$log" "$log"
+    altered two 's/, LENT(colours)/, colours, 256/'
+    two_refuses "$log: record 1 was refused with 2" "$out/altered" "$chr" "$log" "$log"
+    if "$two" "$chr" "$log" "$log" >/dev/full; then fail "two on a full device ends with 0"; fi
+    say "examples/two.c ends with 1 and one line, without a picture, on $refused command lines: writable boards, other cartridges, cut and refused logs"
+}
+
+# Two logs on one cartridge: each half is what that log draws alone, as worked out, as ppu-picture draws it by the plain calls, and for captures of one
+# cartridge as the emulator drew it. The logs out of step; exchanged; one log twice; another cartridge, by which the logs' own tiles are seen
+# to be stored nowhere. Altered copies, in which a call is the other unit's or is lent its memory, draw something else.
+test_two() {
+    [ "$(wc -l <examples/two.c)" -lt 120 ] || fail "examples/two.c is no longer short"
+    local compiler name lent="PPU_RUN_ALL, LENT(left), LENT(right)" first=examples/picture.log second=examples/second.log both=$out/both-${compilers[0]}.ppm
+    mkdir "$out/made" "$out/captured" "$out/raw-captured"
+    cp examples/picture.py examples/records.py "$out/made"
+    python3 "$out/made/picture.py"
+    for name in picture.log second.log picture.chr picture.tbl; do
+        cmp "$out/made/$name" "examples/$name" || fail "examples/$name is not what examples/picture.py writes"
+    done
+    pictures captures "$out/captured" "$out/raw-captured"
+    { printf '\x01\x20\x02\x00' && cat "$second"; } >"$out/later.log" # a write of port 2 first: it does nothing, and all behind it comes a step later
+    tr '\000-\377' '\377\000-\376' <examples/picture.chr >"$out/other.chr"
+    for compiler in "${compilers[@]}"; do
+        compile "$compiler" "$compiler" two ppu
+        two_worked_out both "$first" "$second"
+        two_worked_out exchanged "$second" "$first"
+        two_worked_out later "$first" "$out/later.log"
+        two_worked_out first "$first" "$first"
+        two_worked_out second "$second" "$second"
+        two_worked_out other "$first" "$second" "$out/other.chr"
+        two_captured hit8 spr8
+        two_captured scroll2_w4 scroll3_w1
+        two_captured ovf scroll2_w4
+        "${under[@]}" "$out/two-$compiler" examples/picture.chr "$first" "$second" | cmp - "$both" || fail "two by $compiler"
+    done
+    make_as_user target/examples/two
+    target/examples/two examples/picture.chr "$first" "$second" | cmp - "$both" || fail "two by make examples"
+    if [ -x "$prefix/bin/ppu-picture" ]; then
+        for name in picture second; do
+            "$prefix/bin/ppu-picture" --last -o "$out/$name.png" "examples/$name.log" || fail "ppu-picture on examples/$name.log"
+        done
+        pictures two-alone "$both" "$out/picture.png" "$out/second.png" || fail "the halves are not what ppu-picture draws of each log alone"
+    fi
+    two_seen 's/ppu_shared_run(which,/ppu_shared_run(!which,/'
+    two_seen 's/ppu_shared_write(which,/ppu_shared_write(!which,/'
+    two_seen 's/ppu_shared_read(which,/ppu_shared_read(!which,/'
+    two_seen "s/PPU_RUN_ALL, MEMORY/$lent, NAMETABLES(1), NAMETABLES(0), BOTH(oam), BOTH(palette)/"
+    two_seen "s/PPU_RUN_ALL, MEMORY/$lent, NAMETABLES(0), NAMETABLES(1), LENT(oam[1]), LENT(oam[0]), BOTH(palette)/"
+    two_seen "s/PPU_RUN_ALL, MEMORY/$lent, NAMETABLES(0), NAMETABLES(1), BOTH(oam), LENT(palette[1]), LENT(palette[0])/"
+    two_seen 's/LENT(left), LENT(right)/LENT(right), LENT(left)/'
+    two_seen 's/logs\[which\].drawn\[y\]/logs[!which].drawn[y]/'
+    two_seen 's/logs\[row % 2\]/logs[0]/'
+    say "examples/two.c by ${compilers[*]} draws two logs on one cartridge, each half what that log draws alone: the examples, exchanged, out of step, captures of an emulator"
+    test_two_refusals
 }
 
 # The text layer beside the library, in examples/text.c, and alone.
@@ -525,11 +663,12 @@ tests/packages pkg-config libsdl2-dev xvfb xdotool || true
 test_install
 export PKG_CONFIG_PATH=$prefix/lib/pkgconfig ASAN_OPTIONS=detect_leaks=0 # SDL keeps some memory
 under=()
-if valgrind --quiet true 2>/dev/null; then under=(valgrind --quiet --error-exitcode=9); else skip "valgrind on minimal, split and text, which is not here"; fi
+if valgrind --quiet true 2>/dev/null; then under=(valgrind --quiet --error-exitcode=9); else skip "valgrind on minimal, split, two and text, which is not here"; fi
 if has pkg-config; then
     test_packages
     test_minimal
     test_split
+    test_two
     test_text
 else
     skip "the examples, for want of pkg-config"

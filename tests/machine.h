@@ -224,4 +224,41 @@ static inline uint64_t play_log(Machine *m, const uint8_t *log, size_t length)
                     m->length[COLOURS]);
 }
 
+/* TWO UNITS, ONE CARTRIDGE, as two machines. Record, nametable RAM, OAM and palette are each one's own; the pattern tables, the page and both
+   buffers of a line are the first one's, for either unit, and what the second has of these is never lent. */
+static inline int is_own(int which) { return which == UNIT || which == NAMETABLES || which == OAM || which == PALETTE; }
+
+static inline uint64_t shared_read(Machine *two, unsigned which, unsigned address)
+{
+    Machine *a = two, *b = two + 1;
+    return ppu_shared_read((uint8_t)which, a->unit, a->length[UNIT], b->unit, b->length[UNIT], (uint16_t)address, a->left, a->length[LEFT],
+                           a->right, a->length[RIGHT], a->nametables, nametables_lent(a), b->nametables, nametables_lent(b), a->oam,
+                           a->length[OAM], b->oam, b->length[OAM], a->palette, a->length[PALETTE], b->palette, b->length[PALETTE]);
+}
+
+static inline uint64_t shared_write(Machine *two, unsigned which, unsigned address, unsigned byte)
+{
+    Machine *a = two, *b = two + 1;
+    return ppu_shared_write((uint8_t)which, a->unit, a->length[UNIT], b->unit, b->length[UNIT], (uint16_t)address, (uint8_t)byte, a->left,
+                            a->length[LEFT], a->right, a->length[RIGHT], a->nametables, nametables_lent(a), b->nametables,
+                            nametables_lent(b), a->oam, a->length[OAM], b->oam, b->length[OAM], a->palette, a->length[PALETTE], b->palette,
+                            b->length[PALETTE]);
+}
+
+static inline uint64_t shared_dma(Machine *two, unsigned which)
+{
+    Machine *a = two, *b = two + 1;
+    return ppu_shared_dma((uint8_t)which, a->unit, a->length[UNIT], b->unit, b->length[UNIT], a->oam, a->length[OAM], b->oam,
+                          b->length[OAM], a->page, a->length[PAGE]);
+}
+
+static inline uint64_t shared_run(Machine *two, unsigned which, unsigned most, unsigned reason)
+{
+    Machine *a = two, *b = two + 1;
+    return ppu_shared_run((uint8_t)which, a->unit, a->length[UNIT], b->unit, b->length[UNIT], (uint16_t)most, (uint8_t)reason, a->left,
+                          a->length[LEFT], a->right, a->length[RIGHT], a->nametables, nametables_lent(a), b->nametables, nametables_lent(b),
+                          a->oam, a->length[OAM], b->oam, b->length[OAM], a->palette, a->length[PALETTE], b->palette, b->length[PALETTE],
+                          a->line, a->length[LINE], a->colours, a->length[COLOURS]);
+}
+
 #endif

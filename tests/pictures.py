@@ -1,5 +1,5 @@
 #!/usr/bin/env python3
-"""Pictures for tests/tools.sh, by nothing but Python: PNG files read back, and what they must show.
+"""Pictures for tests/tools.sh and tests/examples.sh, by nothing but Python: PNG files read back, and what they must show.
 
 pictures.py captures LOGS RAW          for each capture writes LOGS/NAME.log, a log from a fresh unit, whose start memory is filled through the
                                        ports first, LOGS/NAME.board, the board byte for it, and RAW/NAME, its own log
@@ -14,6 +14,9 @@ pictures.py drawn BOARD LOG PNG..      these pictures of LOG in grey, by the num
 pictures.py scaled N SMALL LARGE       LARGE is SMALL with each pixel N x N
 pictures.py coloured PAL LOG GREY PNG  PNG is the GREY picture through palette RAM, as LOG fills it at last, and the palette file
 pictures.py rows PNG RRGGBB:COUNT..    each row of PNG has one colour: so many rows of each, in this order
+pictures.py two PPM CHR LEFT RIGHT     the halves of PPM show the last pictures of these logs, worked out with the tiles of CHR; vertical wiring
+pictures.py two-captured PPM LEFT RIGHT  the halves of PPM show the last pictures of these captures, as the emulator drew them
+pictures.py two-alone PPM LEFT RIGHT   the halves of PPM are these PNGs
 """
 from fractions import Fraction
 from functools import cache
@@ -321,6 +324,36 @@ def rows(path, *wanted):
     parts = [(bytes.fromhex(part.split(":")[0]), int(part.split(":")[1])) for part in wanted]
     png = Png(path)
     need(png.colours() == [colour * png.width for colour, count in parts for _ in range(count)], f"{path}: other rows")
+
+
+def same_halves(ppm, *wanted):
+    """wanted: of each half its pixels, three bytes each."""
+    data, header, step = Path(ppm).read_bytes(), b"P6 512 240 255\n", 3 * WIDTH
+    need(data.startswith(header) and len(data) == len(header) + 2 * step * HEIGHT, f"{ppm}: no PPM of 512 by 240")
+    rows = [data[at:at + step] for at in range(len(header), len(data), step)]
+    for which, (name, half) in enumerate(zip(("left", "right"), wanted)):
+        need(b"".join(rows[which::2]) == half, f"{ppm}: the {name} half is another picture")
+
+
+def in_2c02(colours):
+    return shown(extended(Path(__file__).parents[1].joinpath("examples/2c02.pal").read_bytes()), colours)
+
+
+def two(ppm, cartridge, *logs):
+    halves = []
+    for log in logs:
+        filled = Filled(log, 1)
+        filled.pattern = Path(cartridge).read_bytes()
+        halves.append(in_2c02(filled.palette[number] for number in filled.picture(len(filled.pictures))))
+    same_halves(ppm, *halves)
+
+
+def two_captured(ppm, *captured):
+    same_halves(ppm, *(in_2c02(max(finished(name).items())[1]) for name in captured))
+
+
+def two_alone(ppm, *paths):
+    same_halves(ppm, *(b"".join(Png(path).colours()) for path in paths))
 
 
 if __name__ == "__main__":

@@ -52,10 +52,13 @@ uint64_t __muldi3(uint64_t a, uint64_t b)
 static uint8_t unit[PPU_RECORD_LENGTH], left[PPU_PATTERN_LENGTH], right[PPU_PATTERN_LENGTH], nametables[PPU_FOUR_PAGES_LENGTH];
 static uint8_t oam[PPU_OAM_LENGTH], palette[PPU_PALETTE_LENGTH], page[PPU_PAGE_LENGTH], line[PPU_LINE_LENGTH], colours[PPU_COLOURS_LENGTH];
 static uint8_t table[PPU_TABLE_LENGTH], rows[PPU_ROWS_LENGTH];
+/* of a second unit on the same cartridge what is its own */
+static uint8_t unit1[PPU_RECORD_LENGTH], nametables1[PPU_FOUR_PAGES_LENGTH], oam1[PPU_OAM_LENGTH], palette1[PPU_PALETTE_LENGTH];
 static uint64_t state, sum, calls, lines;
 
 /* nametable RAM as the unit's board has it */
 #define NAMETABLES nametables, ppu_nametable_length(unit[PPU_AT_BOARD])
+#define NAMETABLES1 nametables1, ppu_nametable_length(unit1[PPU_AT_BOARD])
 
 static unsigned any(void)
 {
@@ -92,6 +95,13 @@ static uint64_t play(void)
                     palette, sizeof palette, line, sizeof line, colours, sizeof colours);
 }
 
+/* sprites stand close together, so that lines have nine and more */
+static void scatter_page(void)
+{
+    for (size_t i = 0; i < sizeof page; i++)
+        page[i] = (uint8_t)(any() & (i & 3 ? 255 : 63));
+}
+
 static uint64_t one_call(void)
 {
     unsigned kind = any() & 7, number = any(), byte = any() & 255;
@@ -103,8 +113,7 @@ static uint64_t one_call(void)
         return ppu_write(unit, sizeof unit, (uint16_t)address, (uint8_t)(address == 0x2001 ? byte | 0x1E : byte), left, sizeof left, right,
                          sizeof right, NAMETABLES, oam, sizeof oam, palette, sizeof palette);
     if (kind == 4) {
-        for (size_t i = 0; i < sizeof page; i++) /* sprites stand close together, so that lines have nine and more */
-            page[i] = (uint8_t)(any() & (i & 3 ? 255 : 63));
+        scatter_page();
         return ppu_dma(unit, sizeof unit, oam, sizeof oam, page, sizeof page);
     }
     if (kind == 5)
@@ -113,6 +122,28 @@ static uint64_t one_call(void)
         return play();
     return ppu_run(unit, sizeof unit, (uint16_t)(number & 1 ? 1 : number >> 8), (uint8_t)(byte & 3), left, sizeof left, right, sizeof right,
                    NAMETABLES, oam, sizeof oam, palette, sizeof palette, line, sizeof line, colours, sizeof colours);
+}
+
+/* by one of two units, now and then with a number that is no unit's */
+static uint64_t shared_call(void)
+{
+    unsigned kind = any() & 7, number = any(), byte = any() & 255, which = any() & 15 ? number >> 4 & 1 : byte;
+    unsigned address = 0x2000 + (number & 7);
+    if (kind < 2)
+        return ppu_shared_read((uint8_t)which, unit, sizeof unit, unit1, sizeof unit1, (uint16_t)address, left, sizeof left, right,
+                               sizeof right, NAMETABLES, NAMETABLES1, oam, sizeof oam, oam1, sizeof oam1, palette, sizeof palette,
+                               palette1, sizeof palette1);
+    if (kind < 5)
+        return ppu_shared_write((uint8_t)which, unit, sizeof unit, unit1, sizeof unit1, (uint16_t)address,
+                                (uint8_t)(address == 0x2001 ? byte | 0x1E : byte), left, sizeof left, right, sizeof right, NAMETABLES,
+                                NAMETABLES1, oam, sizeof oam, oam1, sizeof oam1, palette, sizeof palette, palette1, sizeof palette1);
+    if (kind == 5) {
+        scatter_page();
+        return ppu_shared_dma((uint8_t)which, unit, sizeof unit, unit1, sizeof unit1, oam, sizeof oam, oam1, sizeof oam1, page, sizeof page);
+    }
+    return ppu_shared_run((uint8_t)which, unit, sizeof unit, unit1, sizeof unit1, (uint16_t)(number & 1 ? 1 : number >> 8),
+                          (uint8_t)(byte & 3), left, sizeof left, right, sizeof right, NAMETABLES, NAMETABLES1, oam, sizeof oam, oam1,
+                          sizeof oam1, palette, sizeof palette, palette1, sizeof palette1, line, sizeof line, colours, sizeof colours);
 }
 
 static void text(void)
@@ -149,6 +180,34 @@ static void some_lines(void)
 }
 #endif
 
+/* what a call answers, and what it leaves of the unit and the buffers of a line */
+static void add_call(uint64_t answer)
+{
+    calls += ppu_number(answer) == PPU_DONE;
+    lines += ppu_lines(answer);
+    add(answer);
+    add_bytes(unit, sizeof unit);
+    add_bytes(line, sizeof line);
+    add_bytes(colours, sizeof colours);
+}
+
+/* the unit as it stands, and a second one: where the first one's board is writable, only the second one's calls succeed */
+static void two_units(unsigned board)
+{
+    scatter(nametables1, sizeof nametables1);
+    scatter(oam1, sizeof oam1);
+    scatter(palette1, sizeof palette1);
+    add(ppu_fresh(unit1, sizeof unit1, (uint8_t)(4 - (board & 3))));
+    unit1[PPU_AT_WARMED_UP] = 1;
+    for (int i = 0; i < 200; i++) {
+        add_call(shared_call());
+        add_bytes(unit1, sizeof unit1);
+    }
+    add_bytes(nametables1, sizeof nametables1);
+    add_bytes(oam1, sizeof oam1);
+    add_bytes(palette1, sizeof palette1);
+}
+
 /* calls on a board's unit */
 static void session(unsigned board)
 {
@@ -156,15 +215,9 @@ static void session(unsigned board)
     sum = 0;
     add(ppu_fresh(unit, sizeof unit, (uint8_t)board));
     unit[PPU_AT_WARMED_UP] = 1;
-    for (int i = 0; i < 400; i++) {
-        uint64_t answer = one_call();
-        calls += ppu_number(answer) == PPU_DONE;
-        lines += ppu_lines(answer);
-        add(answer);
-        add_bytes(unit, sizeof unit);
-        add_bytes(line, sizeof line);
-        add_bytes(colours, sizeof colours);
-    }
+    for (int i = 0; i < 400; i++)
+        add_call(one_call());
+    two_units(board);
     text();
     add_bytes(left, sizeof left);
     add_bytes(right, sizeof right);

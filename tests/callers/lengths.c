@@ -10,9 +10,14 @@
    at its front must answer 5; with one, the lengths that count are those of the call that the record stands for. A search on
    a line above 239 must answer 5, whatever the lengths; one that is done looks at 9 to 64 sprites, and no other call says
    that it looked at any. A run with a reason to stop above 2 must answer 5, whatever the lengths; only one with reason 1 or
-   2 says that it met its reason. Rows of the right length with a character that is 0 or has no tile must answer 8. With
-   REACH_READ or REACH_WRITE the test itself goes one byte beyond a slice, as a faulty library would, to show that this is
-   noticed. */
+   2 says that it met its reason. Rows of the right length with a character that is 0 or has no tile must answer 8.
+
+   The shared calls are made by unit 0, by unit 1 and with other numbers, which must answer 7 before all else; 6 is due for a
+   writable board directly after 3. The other unit's record and memory have any lengths, 0 often, and any bytes. They play
+   no part in what is due, and in pages they may not be touched at all while the call runs.
+
+   With REACH_READ or REACH_WRITE the test itself goes one byte beyond a slice, with REACH_OTHER it reads the other unit's
+   record, as a faulty library would, to show that this is noticed. */
 #define _DEFAULT_SOURCE
 #include <stdio.h>
 #include <stdlib.h>
@@ -20,20 +25,24 @@
 #include <sys/mman.h>
 #include "ppu.h"
 
-/* PAGE is sprite DMA's, SHEET a page of nametable RAM. The runs are in the order of their reasons. */
-enum { UNIT, LEFT, RIGHT, NAMETABLES, OAM, PALETTE, LINE, COLOURS, PAGE, LOG, SHEET, TABLE, ROWS, MEMORIES };
-enum { FRESH, READ, WRITE, DMA, SEARCH, TEXT, TEXT_PAGE, RUN, TO_NMI, TO_HIT, PLAY, KINDS };
+/* PAGE is sprite DMA's, SHEET a page of nametable RAM; the others are those of the unit that does not call. The runs are in the
+   order of their reasons; the shared calls stand last. */
+enum { UNIT, LEFT, RIGHT, NAMETABLES, OAM, PALETTE, LINE, COLOURS, PAGE, LOG, SHEET, TABLE, ROWS,
+       OTHER_UNIT, OTHER_NAMETABLES, OTHER_OAM, OTHER_PALETTE, MEMORIES };
+enum { FRESH, READ, WRITE, DMA, SEARCH, TEXT, TEXT_PAGE, RUN, TO_NMI, TO_HIT, PLAY, SHARED_READ, SHARED_WRITE, SHARED_DMA, SHARED_RUN, KINDS };
 enum { LONGEST = 5000, ROOM = 8192, BARRIER = 4096, NUMBERS = 9 };
 
 /* Of nametable RAM that of a board with two pages. */
 enum { TWO_PAGES = 2048, FOUR_PAGES = 4096 };
-static const size_t right_length[MEMORIES] = {16, 4096, 4096, TWO_PAGES, 256, 32, 256, 512, 256, 4, 1024, 256, 960};
-static const char *const kind_name[KINDS] = {"fresh", "read", "write", "dma", "search", "text",
-                                             "page", "run", "to NMI", "to hit", "play"};
+static const size_t right_length[MEMORIES] = {16, 4096, 4096, TWO_PAGES, 256, 32, 256, 512, 256, 4, 1024, 256, 960,
+                                              16, TWO_PAGES, 256, 32};
+static const char *const kind_name[KINDS] = {"fresh", "read", "write", "dma", "search", "text", "page", "run", "to NMI",
+                                             "to hit", "play", "shared read", "shared write", "shared dma", "shared run"};
 
-/* The memories that a kind of call is lent, and those of them that it may change, as sets of bits; for play see `played`. */
-static const unsigned lent[KINDS] = {0x01, 0x3F, 0x3F, 0x111, 0x11, 0x1C00, 0x1C00, 0xFF, 0xFF, 0xFF, 0x2FF};
-static const unsigned mutable_ones[KINDS] = {0x01, 0x01, 0x3F, 0x11, 0, 0x1000, 0x400, 0xC1, 0xC1, 0xC1, 0};
+/* The memories that a kind of call is lent, those of the other unit left out, and those of them that it may change, as sets of
+   bits; for play see `played`. */
+static const unsigned lent[KINDS] = {0x01, 0x3F, 0x3F, 0x111, 0x11, 0x1C00, 0x1C00, 0xFF, 0xFF, 0xFF, 0x2FF, 0x3F, 0x3F, 0x111, 0xFF};
+static const unsigned mutable_ones[KINDS] = {0x01, 0x01, 0x3F, 0x11, 0, 0x1000, 0x400, 0xC1, 0xC1, 0xC1, 0, 0x01, 0x39, 0x11, 0xC1};
 
 static struct memory {
     uint8_t *room;    /* ROOM bytes between two barriers, or the block itself */
@@ -49,6 +58,18 @@ static uint64_t state;
 static uint16_t address, searched; /* of an access; the line of a search */
 static uint8_t byte, reason;       /* of a write or a fresh unit's board; of a run */
 static uint8_t board;              /* of a record that is made well formed */
+static uint8_t which;              /* the unit number of a shared call */
+
+static int is_shared(int kind)
+{
+    return kind >= SHARED_READ;
+}
+
+/* How many memories there are for a call: those of another unit are the last. */
+static int memories(int kind)
+{
+    return is_shared(kind) ? MEMORIES : OTHER_UNIT;
+}
 
 static uint64_t next_random(void)
 {
@@ -188,6 +209,13 @@ static int played(const struct memory *log)
     return log->at[0] == 0 ? READ : log->at[0] == 1 ? WRITE : RUN;
 }
 
+/* The other unit's lengths: none, right, any. */
+static void choose_other_lengths(size_t *length)
+{
+    for (int m = OTHER_UNIT; m <= OTHER_PALETTE; m++)
+        length[m] = below(3) == 0 ? 0 : below(2) ? right_length[m] : below(LONGEST + 1);
+}
+
 /* Lengths: one off by one; one of any length; all of any length, but half of the records right; else all right for the board.
    A log is often short; nametable RAM often has what some board has. */
 static void choose_lengths(int kind, size_t *length)
@@ -209,9 +237,34 @@ static void choose_lengths(int kind, size_t *length)
         length[LOG] = below(9); /* about the length of a record */
     if (style != 1 && below(4) == 0)
         length[NAMETABLES] = below(2) ? TWO_PAGES : FOUR_PAGES;
+    choose_other_lengths(length);
 }
 
 #define SLICE(m) memory[m].at, memory[m].length
+
+static uint16_t any_lines(void)
+{
+    return (uint16_t)below(below(4) ? 5 : 600);
+}
+
+/* Unit 0's and unit 1's of a memory that each has. */
+#define PAIR(m) SLICE(which == 1 ? OTHER_##m : m), SLICE(which == 1 ? m : OTHER_##m)
+
+static uint64_t shared_call(int kind)
+{
+    switch (kind) {
+    case SHARED_READ:
+        return ppu_shared_read(which, PAIR(UNIT), address, SLICE(LEFT), SLICE(RIGHT), PAIR(NAMETABLES), PAIR(OAM), PAIR(PALETTE));
+    case SHARED_WRITE:
+        return ppu_shared_write(which, PAIR(UNIT), address, byte, SLICE(LEFT), SLICE(RIGHT), PAIR(NAMETABLES), PAIR(OAM),
+                                PAIR(PALETTE));
+    case SHARED_DMA:
+        return ppu_shared_dma(which, PAIR(UNIT), PAIR(OAM), SLICE(PAGE));
+    default:
+        return ppu_shared_run(which, PAIR(UNIT), any_lines(), reason, SLICE(LEFT), SLICE(RIGHT), PAIR(NAMETABLES), PAIR(OAM),
+                              PAIR(PALETTE), SLICE(LINE), SLICE(COLOURS));
+    }
+}
 
 static uint64_t call(int kind)
 {
@@ -233,9 +286,14 @@ static uint64_t call(int kind)
     case PLAY:
         return ppu_play(SLICE(UNIT), SLICE(LOG), SLICE(LEFT), SLICE(RIGHT), SLICE(NAMETABLES), SLICE(OAM), SLICE(PALETTE),
                         SLICE(LINE), SLICE(COLOURS));
+    case SHARED_READ:
+    case SHARED_WRITE:
+    case SHARED_DMA:
+    case SHARED_RUN:
+        return shared_call(kind);
     default:
-        return ppu_run(SLICE(UNIT), (uint16_t)below(below(4) ? 5 : 600), reason, SLICE(LEFT), SLICE(RIGHT), SLICE(NAMETABLES),
-                       SLICE(OAM), SLICE(PALETTE), SLICE(LINE), SLICE(COLOURS));
+        return ppu_run(SLICE(UNIT), any_lines(), reason, SLICE(LEFT), SLICE(RIGHT), SLICE(NAMETABLES), SLICE(OAM), SLICE(PALETTE),
+                       SLICE(LINE), SLICE(COLOURS));
     }
 }
 
@@ -248,15 +306,29 @@ static void reach(void)
         state++;
 #elif defined REACH_WRITE
     memory[LINE].at[memory[LINE].length] ^= 1;
+#elif defined REACH_OTHER
+    volatile uint8_t *other = memory[OTHER_UNIT].at;
+    if (memory[OTHER_UNIT].length > 0 && *other == 1)
+        state++;
 #endif
+}
+
+/* In pages: how the other unit's memory may be touched. */
+static void guard_other(int kind, int protection)
+{
+    for (int m = OTHER_UNIT; m < memories(kind) && in_pages; m++)
+        if (mprotect(memory[m].room, ROOM, protection) != 0) {
+            perror("lengths");
+            exit(2);
+        }
 }
 
 static void complain(long round, int kind, const char *what)
 {
     printf("tests/callers: round %ld, %s: %s; lengths", round, kind_name[kind], what);
-    for (int m = 0; m < MEMORIES; m++)
+    for (int m = 0; m < memories(kind); m++)
         printf(" %zu", memory[m].length);
-    printf("\n");
+    printf(is_shared(kind) ? "; unit number %u\n" : "\n", which);
     failed = 1;
 }
 
@@ -271,30 +343,39 @@ static int is_kept(const struct memory *m, int may_change)
 
 static int is_run(int kind)
 {
-    return kind >= RUN && kind <= TO_HIT;
+    return (kind >= RUN && kind <= TO_HIT) || kind == SHARED_RUN;
+}
+
+/* The reason of a run by its kind; a shared one has any. */
+static uint8_t any_reason(int kind)
+{
+    return (uint8_t)(below(8) == 0 ? 3 + below(253) : kind == SHARED_RUN ? below(3) : (size_t)(kind - RUN));
 }
 
 /* Every memory at the length of a call of the kind, with bytes that are mostly fit for one. */
 static void prepare(int kind)
 {
     size_t length[MEMORIES];
-    board = (uint8_t)((below(2) ? 4 : below(4)) + 8 * below(2));
+    board = (uint8_t)((below(2) ? 4 : below(4)) + (below(is_shared(kind) ? 4 : 2) == 0 ? 8 : 0));
+    which = (uint8_t)(below(8) ? below(2) : 2 + below(254));
     choose_lengths(kind, length);
-    for (int m = 0; m < MEMORIES; m++) {
+    for (int m = 0; m < memories(kind); m++) {
         place(&memory[m], length[m]);
         fill(&memory[m]);
     }
     if (length[UNIT] >= 16 && below(4))
         make_well_formed(memory[UNIT].at);
+    if (is_shared(kind) && length[OTHER_UNIT] >= 16 && below(2))
+        make_well_formed(memory[OTHER_UNIT].at);
     address = (uint16_t)(below(8) ? 0x2000 + below(0x2000) : next_random());
     byte = (uint8_t)(kind != FRESH ? next_random() : below(2) ? board : below(32));
     searched = (uint16_t)(below(4) ? below(240) : below(2) ? 238 + below(4) : next_random());
     if (is_run(kind))
-        reason = (uint8_t)(below(8) ? (size_t)(kind - RUN) : 3 + below(253));
+        reason = any_reason(kind);
     make_sprites(&memory[OAM]);
     make_record(memory[LOG].at, length[LOG]);
     make_rows(&memory[ROWS], &memory[TABLE]);
-    for (int m = 0; m < MEMORIES; m++)
+    for (int m = 0; m < memories(kind); m++)
         keep(&memory[m]);
 }
 
@@ -338,19 +419,26 @@ static int has_wrong_memory(int as, unsigned of_board)
     return 0;
 }
 
+static int is_access(int as)
+{
+    return as == READ || as == WRITE || as == SHARED_READ || as == SHARED_WRITE;
+}
+
 /* The number of a read or a write by a unit, when nothing else is wrong. */
 static int due_to_access(int as, unsigned place, const uint8_t *unit)
 {
     int drawing = (unit[1] & 0x18) && (line_of(unit) < 240 || line_of(unit) == 261);
     if (place < 0x2000 || place > 0x3FFF)
         return 1;
-    return drawing && (place % 8 == 7 || (place % 8 == 4 && as == READ)) ? 4 : 0;
+    return drawing && (place % 8 == 7 || (place % 8 == 4 && (as == READ || as == SHARED_READ))) ? 4 : 0;
 }
 
 /* The number that is due, for a call or for the one that a log's record stands for. */
 static int due(int kind, int as)
 {
     const uint8_t *unit = memory[UNIT].at, *log = memory[LOG].at;
+    if (is_shared(kind) && which > 1)
+        return 7;
     if (is_unknown(kind))
         return 5;
     if (as == TEXT || as == TEXT_PAGE)
@@ -361,9 +449,11 @@ static int due(int kind, int as)
         return is_board(byte) ? 0 : 3;
     if (!is_well_formed(unit))
         return 3;
+    if (is_shared(kind) && unit[15] >= 8)
+        return 6;
     if (has_wrong_memory(as, unit[15]))
         return 2;
-    return as == READ || as == WRITE ? due_to_access(as, kind == PLAY ? log[1] * 256u + log[2] : address, unit) : 0;
+    return is_access(as) ? due_to_access(as, kind == PLAY ? log[1] * 256u + log[2] : address, unit) : 0;
 }
 
 static int round_of(long round, int kind)
@@ -371,8 +461,10 @@ static int round_of(long round, int kind)
     char said[64];
     prepare(kind);
     int as = kind == PLAY ? played(&memory[LOG]) : kind, wanted = due(kind, as);
+    guard_other(kind, PROT_NONE);
     uint64_t answer = call(kind);
     reach();
+    guard_other(kind, PROT_READ | PROT_WRITE);
     int number = (int)ppu_number(answer);
     snprintf(said, sizeof said, "answers %d where %d is due", number, wanted);
     if (number != wanted)
@@ -382,16 +474,29 @@ static int round_of(long round, int kind)
         complain(round, kind, "a refusal says more than its number");
     if (!is_looked(ppu_looked(answer), number == 0 && kind == SEARCH))
         complain(round, kind, "so many sprites cannot have been looked at");
-    if (ppu_met(answer) && kind != TO_NMI && kind != TO_HIT)
+    if (ppu_met(answer) && (!is_run(kind) || reason == PPU_RUN_ALL))
         complain(round, kind, "a reason is met where there is none");
     met[kind] += ppu_met(answer);
-    for (int m = 0; m < MEMORIES; m++) {
+    for (int m = 0; m < memories(kind); m++) {
         if (!is_kept(&memory[m], number == 0 && (mutable_ones[as] >> m & 1)))
             complain(round, kind, "memory changed that must not");
         if (!in_pages)
             free(memory[m].room);
     }
     return number;
+}
+
+/* Prints what the calls of a kind answered; a number that it can give and never gave fails. */
+static void report(int k, const long *count)
+{
+    int of_unit = lent[k] >> UNIT & 1;
+    printf("  %-12s %ld done (%ld on four pages, %ld met), refused", kind_name[k], count[0], on_four_pages[k], met[k]);
+    for (int number = 1; number < NUMBERS; number++)
+        printf("%s %ld with %d", number > 1 ? "," : "", count[number], number);
+    printf("\n");
+    failed |= count[0] == 0 || count[2] == 0 || ((k == PLAY || k == SEARCH || is_run(k)) && count[5] == 0) ||
+              (k == TEXT_PAGE && count[8] == 0) || (of_unit && (count[3] == 0 || on_four_pages[k] == 0)) ||
+              (is_shared(k) && (count[6] == 0 || count[7] == 0));
 }
 
 int main(int argc, char **argv)
@@ -409,14 +514,8 @@ int main(int argc, char **argv)
         int kind = (int)below(KINDS);
         count[kind][round_of(round, kind) % NUMBERS]++;
     }
-    for (int k = 0; k < KINDS; k++) {
-        int of_unit = lent[k] >> UNIT & 1;
-        printf("  %-6s %ld done (%ld on four pages, %ld met), refused %ld with 1, %ld with 2, %ld with 3, %ld with 4, %ld with 5, %ld with 8\n",
-               kind_name[k], count[k][0], on_four_pages[k], met[k], count[k][1], count[k][2], count[k][3], count[k][4], count[k][5],
-               count[k][8]);
-        failed |= count[k][0] == 0 || count[k][2] == 0 || ((k == PLAY || k == SEARCH || is_run(k)) && count[k][5] == 0) ||
-                  (k == TEXT_PAGE && count[k][8] == 0) || (of_unit && (count[k][3] == 0 || on_four_pages[k] == 0));
-    }
+    for (int k = 0; k < KINDS; k++)
+        report(k, count[k]);
     printf("tests/callers: %ld calls, seed %s, %s: %s\n", rounds, argv[2], argv[3], failed ? "FAILED" : "ok");
     return failed;
 }

@@ -2,21 +2,32 @@
 
    The string: 16 bytes of the unit's record (as they are if the next byte is odd, else made well formed), a byte that
    chooses the contents of memory, then steps. A step is a byte, whose low three bits say what, and its arguments:
-   0 read, 1 write, 2 sprite DMA, the search for overflow, or a call of the text layer, 3 a run of one line or some, with a
-   known reason to stop or any, 4 the record of a log, also with one length near the right one, 5 a byte of memory, 6 a
-   sprite near the next line, or a row of them, 7 a length for the next call, or fresh. */
+   0 read, 1 write, 2 sprite DMA, the search for overflow, a call of the text layer or one of two units, 3 a run of one line
+   or some, with a known reason to stop or any, 4 the record of a log, also with one length near the right one, 5 a byte of
+   memory, 6 a sprite near the next line, or a row of them, 7 a length for the next call, or fresh.
+
+   The second of two units comes with the contents of memory, its record well formed; bits 1 and 2 of the byte behind the
+   record take writable pattern memory from the two boards. The two can change places, so that each step that is of one unit,
+   and each change of memory, is of either. */
 #include <stdio.h>
 #include <stdlib.h>
 #include <string.h>
 #include "ppu.h"
 #include "second.h"
 
-/* SCREEN is the nametable page of the text layer, PAGE the page for sprite DMA. */
-enum { UNIT, LEFT, RIGHT, NAMETABLES, OAM, PALETTE, LINE, COLOURS, PAGE, LOG, SCREEN, ROWS, TABLE, MEMORIES };
+/* SCREEN is the nametable page of the text layer, PAGE the page for sprite DMA; UNIT1 to PALETTE1 are unit 1's own. */
+enum {
+    UNIT, LEFT, RIGHT, NAMETABLES, OAM, PALETTE, LINE, COLOURS, PAGE, LOG, SCREEN, ROWS, TABLE,
+    UNIT1, NAMETABLES1, OAM1, PALETTE1, MEMORIES
+};
 enum { LONGEST = 4096, SLACK = 16, STEPS = 60, MOST_LINES = 24, CONTENTS = 16 };
 
 /* What each memory holds. */
-static const size_t held[MEMORIES] = {16, 4096, 4096, PPU_FOUR_PAGES_LENGTH, 256, 32, 256, 512, 256, 4, 1024, 960, 256};
+static const size_t held[MEMORIES] = {16, 4096, 4096, PPU_FOUR_PAGES_LENGTH, 256, 32, 256, 512, 256, 4, 1024, 960, 256,
+                                      16, PPU_FOUR_PAGES_LENGTH, 256, 32};
+
+/* Each unit's own memory. */
+static const int own[2][4] = {{UNIT, NAMETABLES, OAM, PALETTE}, {UNIT1, NAMETABLES1, OAM1, PALETTE1}};
 
 struct side {
     uint8_t memory[MEMORIES][LONGEST + 2 * SLACK];
@@ -57,7 +68,9 @@ static uint8_t board_of(uint8_t byte)
 /* What a call asks for: of nametable RAM what the unit's board has. */
 static size_t right_length(const struct side *side, int memory)
 {
-    return memory == NAMETABLES ? ppu_nametable_length(side->memory[UNIT][SLACK + PPU_AT_BOARD]) : held[memory];
+    int unit = memory == NAMETABLES1 ? UNIT1 : UNIT;
+    int is_nametables = memory == NAMETABLES || memory == NAMETABLES1;
+    return is_nametables ? ppu_nametable_length(side->memory[unit][SLACK + PPU_AT_BOARD]) : held[memory];
 }
 
 static size_t lent_length(const struct side *side, int memory)
@@ -76,7 +89,7 @@ static void choose_near(int memory)
 {
     unsigned how = take();
     size_t right = right_length(&library, memory);
-    if (memory == NAMETABLES && how % 4 == 3)
+    if ((memory == NAMETABLES || memory == NAMETABLES1) && how % 4 == 3)
         choose_length(memory, PPU_NAMETABLE_LENGTH + PPU_FOUR_PAGES_LENGTH - right);
     else
         choose_length(memory, right - 1 + how % 3);
@@ -108,7 +121,10 @@ static void fill(struct side *side, unsigned choice)
 
 #define SLICE(side, m) (side).memory[m] + SLACK, lent_length(&(side), m)
 #define ACCESS(side) SLICE(side, LEFT), SLICE(side, RIGHT), SLICE(side, NAMETABLES), SLICE(side, OAM), SLICE(side, PALETTE)
-#define PICTURE(side) ACCESS(side), SLICE(side, LINE), SLICE(side, COLOURS)
+#define PICTURE(side) ACCESS(side), BUFFERS(side)
+#define BOTH(side, m) SLICE(side, m), SLICE(side, m##1)
+#define SHARED(side) SLICE(side, LEFT), SLICE(side, RIGHT), BOTH(side, NAMETABLES), BOTH(side, OAM), BOTH(side, PALETTE)
+#define BUFFERS(side) SLICE(side, LINE), SLICE(side, COLOURS)
 
 /* Compares both sides after a call, and gives the right lengths back. */
 static void compare(const char *what, uint64_t one, uint64_t other)
@@ -255,7 +271,62 @@ static void search(unsigned what)
             second_search(SLICE(second, UNIT), line, SLICE(second, OAM)));
 }
 
-/* Steps 0 to 2: a read, a write, sprite DMA, a search or a call of the text layer. */
+/* The two units change places. */
+static void exchange(struct side *side)
+{
+    static uint8_t kept[LONGEST + 2 * SLACK];
+    for (int i = 0; i < 4; i++) {
+        uint8_t *one = side->memory[own[0][i]], *other = side->memory[own[1][i]];
+        memcpy(kept, one, sizeof kept);
+        memcpy(one, other, sizeof kept);
+        memcpy(other, kept, sizeof kept);
+    }
+}
+
+/* A run by one of two units. */
+static void shared_run(unsigned which, unsigned what)
+{
+    unsigned lines = what & 64 ? take() : 1, reason = what & 128 ? take() : take() % 3;
+    if (library.memory[which == 1 ? UNIT1 : UNIT][SLACK + 1] & 0x18)
+        lines %= MOST_LINES + 1;
+    compare("shared run", ppu_shared_run(which, BOTH(library, UNIT), lines, reason, SHARED(library), BUFFERS(library)),
+            second_shared_run(which, BOTH(second, UNIT), lines, reason, SHARED(second), BUFFERS(second)));
+}
+
+/* A call by one of two units, or by a number that is none of them, also with one length near the right one; or they change
+   places. */
+static void shared_call(void)
+{
+    unsigned what = take(), which = what & 8 ? take() : what >> 2 & 1, address, byte;
+    if (what & 16) {
+        exchange(&library);
+        exchange(&second);
+    }
+    if (what & 32)
+        choose_near((int)(take() % MEMORIES));
+    switch (what & 3) {
+    case 0:
+        address = what & 64 ? take_two() : 0x2000 | take() % 8;
+        compare("shared read", ppu_shared_read(which, BOTH(library, UNIT), address, SHARED(library)),
+                second_shared_read(which, BOTH(second, UNIT), address, SHARED(second)));
+        break;
+    case 1:
+        address = what & 64 ? take_two() : 0x2000 | take() % 8;
+        byte = take();
+        compare("shared write", ppu_shared_write(which, BOTH(library, UNIT), address, byte, SHARED(library)),
+                second_shared_write(which, BOTH(second, UNIT), address, byte, SHARED(second)));
+        break;
+    case 2:
+        compare("shared dma", ppu_shared_dma(which, BOTH(library, UNIT), BOTH(library, OAM), SLICE(library, PAGE)),
+                second_shared_dma(which, BOTH(second, UNIT), BOTH(second, OAM), SLICE(second, PAGE)));
+        break;
+    case 3:
+        shared_run(which, what);
+        break;
+    }
+}
+
+/* Steps 0 to 2: a read, a write, sprite DMA, a search, a call of the text layer or one of two units. */
 static void access_memory(unsigned what)
 {
     unsigned address, byte;
@@ -276,6 +347,8 @@ static void access_memory(unsigned what)
             text_layer(what);
         else if (what & 16)
             search(what);
+        else if (what & 224)
+            shared_call();
         else
             compare("dma", ppu_dma(SLICE(library, UNIT), SLICE(library, OAM), SLICE(library, PAGE)),
                     second_dma(SLICE(second, UNIT), SLICE(second, OAM), SLICE(second, PAGE)));
@@ -359,6 +432,11 @@ int LLVMFuzzerTestOneInput(const uint8_t *bytes, size_t size)
     memcpy(library.memory[UNIT] + SLACK, bytes, 16);
     if (!(form & 1))
         make_well_formed(library.memory[UNIT] + SLACK);
+    make_well_formed(library.memory[UNIT1] + SLACK);
+    if (form & 2)
+        library.memory[UNIT][SLACK + PPU_AT_BOARD] &= ~PPU_WRITABLE;
+    if (form & 4)
+        library.memory[UNIT1][SLACK + PPU_AT_BOARD] &= ~PPU_WRITABLE;
     second = library;
     memset(chosen, 0, sizeof chosen);
     for (int steps = 0; left_over > 0 && steps < STEPS; steps++)

@@ -66,6 +66,9 @@ module _ (d : Board) (l r n o p : ℕ) (s : Bool) (u : Ppu) (a : ℕ) (c : Bool)
   pub long-oam : o ≡ 256
   long-oam = eqb-true o 256 (sized .3)
 
+  pub long-palette : p ≡ 32
+  long-palette = eqb-true p 32 (sized .4)
+
 pub long-video : (d : Board) (l r n p : List ℕ) (o : ℕ) (s : Bool) (u : Ppu) (a : ℕ) (c : Bool) (k : ℕ)
     → s ≡ accessSizes d (length l) (length r) (length n) o (length p) → k ≡ accessRefusal s u a c → k ≡ 0 → VideoLengths d (video l r n p)
 long-video d l r n p o s u a c k hs hk h =

@@ -24,7 +24,7 @@ use Rattle.model.specs.Log.{Record, whole, cut, recordsOf, recordKnown, 
 use Rattle.model.specs.Theorems.{AreBelow, AreBytes, Refusals, RoundTrips, Frames, Lending, Traces, DataCalls, HeldBytes, PackedParts, Arguments, ReloadTheorem, Mirrors, Steps, PlayedRecords, Theorems}
 use Rattle.model.proofs.Tests.{and-both}
 use Rattle.model.proofs.Accepted.{is-refused, is-unmade, and-none}
-use Rattle.model.proofs.Record.{unit-record-unit, load-save, load-is, save-is, save-load, board-codes}
+use Rattle.model.proofs.Record.{bit-small, unit-record-unit, load-save, load-is, save-is, save-load, board-codes}
 use Rattle.model.proofs.Address.{board-pages}
 use Rattle.model.proofs.Calls.{frame, exported-frame}
 use Rattle.model.proofs.Colours.{colours, coloured-lines, colour-bytes}
@@ -138,10 +138,6 @@ refusals =
     }
 
 -- a packed answer's parts
-bit-small : (b : Bool) → bitByte b < 2
-bit-small true = omega arith
-bit-small false = omega arith
-
 packed-parts : (a : Answer) → PackedParts a
 packed-parts a =
     let s : bitByte (a .nmi) < 2 = bit-small (a .nmi) in

@@ -5,7 +5,7 @@ use Prim.Native.Nat.{ℕ, _<_}
 use Rattle.model.specs.declared.Board.{Board}
 use Rattle.model.specs.Unit.{Memory, state}
 use Rattle.model.specs.Record.{at, unitOf}
-use Rattle.model.specs.Calls.{loadCall, Call, lentOf, lentMemory, ownMemory, onRecord, Exported, exportedCall}
+use Rattle.model.specs.Calls.{loadCall, Call, lentOf, lentMemory, ownMemory, Outcome, onRecord, Exported, exportedCall}
 use Rattle.model.specs.Reload.{System, endOf, dataCall, Places, Bytes, seven, joined, without, PairOf, Held, AllFit}
 
 -- a saved unit's record and the unit's own memory
@@ -25,29 +25,38 @@ pub record RecordGiven : Type 0 where
 abbrev pub recordGiven : ℕ → RecordState → Memory → RecordGiven
 recordGiven r s m = record { result = r; after = s; lent = m }
 
-unfoldable pub recordCall : Call → RecordState → RecordGiven
-recordCall c s =
-    let e : Exported = exportedCall c (s .bytes) (lentMemory (lentOf c) (s .memory)) in
+abbrev pub recordCallBy : (Call → List ℕ → Memory → Exported) → Call → RecordState → RecordGiven
+recordCallBy on c s =
+    let e : Exported = on c (s .bytes) (lentMemory (lentOf c) (s .memory)) in
     record { result = e .result; after = recordState (e .bytes) (ownMemory (lentOf c) (s .memory) (e .memory)); lent = e .memory }
+
+unfoldable pub recordCall : Call → RecordState → RecordGiven
+recordCall c s = recordCallBy exportedCall c s
 
 unfoldable pub recordTrace : List Call → RecordState → List RecordGiven
 recordTrace [] s = []
 recordTrace (c ∷ cs) s = recordCall c s ∷ recordTrace cs (recordCall c s .after)
 
 -- what answers exported calls: the answer is the one that the call packs, the unit the record's, well formed or not
-abbrev pub recordSystem : System RecordState
-recordSystem =
+abbrev pub recordSystemBy : (Call → RecordState → RecordGiven) → (Call → List ℕ → Memory → Outcome) → System RecordState
+recordSystemBy f on =
     record {
-      next = λ c s. recordCall c s .after;
-      reply = λ c s. onRecord c (s .bytes) (lentMemory (lentOf c) (s .memory)) .answer;
+      next = λ c s. f c s .after;
+      reply = λ c s. on c (s .bytes) (lentMemory (lentOf c) (s .memory)) .answer;
       lends = λ c s. state (unitOf (s .bytes)) (lentMemory (lentOf c) (s .memory));
       rests = λ s. state (unitOf (s .bytes)) (s .memory);
     }
 
+abbrev pub recordSystem : System RecordState
+recordSystem = recordSystemBy recordCall onRecord
+
 -- two logs of demand 3, from one record and memory: a record of bytes, of any length, byte 14 being 1
-pub record RecordPair (s : RecordState) (la lb : List Call) : Type 0 where
+pub record RecordPairOf (r : System RecordState) (s : RecordState) (la lb : List Call) : Type 0 where
   pub small : (k : ℕ) → at (s .bytes) k < 256
-  pub pair : PairOf recordSystem dataCall s la lb
+  pub pair : PairOf r dataCall s la lb
+
+abbrev pub RecordPair : RecordState → List Call → List Call → Type 0
+RecordPair s la lb = RecordPairOf recordSystem s la lb
 
 -- step k of the reload cannot be spared, by exported calls: the same on a record that calls take
 pub record RecordNeeded (d : Board) (k : ℕ) : Type 0 where

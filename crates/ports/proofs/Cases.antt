@@ -109,6 +109,11 @@ write-1 u k b l₀ r₀ n₀ o₀ p₀ l r n o p x hv ho e =
     let hm : accessCells l r n o p ≡ wroteMemory k u b (accessCells l₀ r₀ n₀ o₀ p₀) = memory-1 u k b l₀ r₀ n₀ o₀ p₀ l r n o p hv ho in
     λ i. outcome (e i .answer) (state (e i .unit) (withCells (accessMemory l₀ r₀ n₀ o₀ p₀) (hm i)))
 
+pub write-2 : (u next : Ppu) (k b : ℕ) (l₀ r₀ n₀ o₀ p₀ l r n o p : List ℕ) (x : Access)
+    → video l r n p ≡ wroteVideo k u b (video l₀ r₀ n₀ p₀) → o ≡ wroteOamBytes k u b o₀ → next ≡ wroteUnit k u b → x ≡ access (doneAnswer 0 next) next
+    → accessOutcome x l r n o p ≡ writeDone k b (state u (accessMemory l₀ r₀ n₀ o₀ p₀))
+write-2 u next k b l₀ r₀ n₀ o₀ p₀ l r n o p x hv ho e f = write-1 u k b l₀ r₀ n₀ o₀ p₀ l r n o p x hv ho (wrote-1 (wroteUnit k u b) next x e f)
+
 -- sprite DMA: what is left of the page, from here, gives what the whole gives from the start
 copy-step : (page : List ℕ) (i : ℕ) (u : Ppu) (o : List ℕ) → i < length page
     → copyOf (drop i page) (copied u o) ≡ copyOf (drop (i + 1) page) (copied (wroteUnit 4 u (getD page i 0)) (wroteOamBytes 4 u (getD page i 0) o))

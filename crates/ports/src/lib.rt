@@ -1,7 +1,8 @@
 // Accepted accesses and sprite DMA: what they do to the unit and to lent memory. Inner functions, not public calls:
 // they require the lengths that a call has checked.
-// read, write, dma; below them read_byte, read_unit, wrote, copy_page.
+// read, write, write_kept, dma; below them read_byte, read_unit, wrote, copy_page.
 ghost use mathlib.Core.Path.{_≡_};
+ghost use mathlib.Core.Bool.{false};
 ghost use mathlib.Core.List.{[]};
 ghost use lib.ListN.{length};
 ghost use Rattle.model.specs.Unit.{
@@ -119,6 +120,28 @@ pub fn write(
     memory::write_video(u, port, byte, left, right, nametables, palette);
     memory::write_oam(u, port, byte, oam);
     wrote(u, port, byte)
+}
+
+// An accepted write of a port, where pattern memory is not writable: the tables stay. `wrote` is put together once more: shared with `write` it would
+// stay a call in both.
+pub fn write_kept(
+    u: Ppu,
+    port: u16,
+    byte: u8,
+    left: &[u8],
+    right: &[u8],
+    nametables: &mut [u8],
+    oam: &mut [u8],
+    palette: &mut [u8],
+) -> Access
+    requires { ⌜ VideoLengths (u .board) (video (now left) (now right) (now nametables) (now palette)) × (length (now oam) ≡ oamLength) × (u .board .writable ≡ false) ⌝ }
+    ensures { λ r. ⌜ accessOutcome r (now (left .entry)) (now (right .entry)) (now (nametables .exit)) (now (oam .exit)) (now (palette .exit)) ≡
+        writeDone port byte (state u (accessMemory (now (left .entry)) (now (right .entry)) (now (nametables .entry)) (now (oam .entry)) (now (palette .entry)))) ⌝ }
+{
+    memory::write_kept(u, port, byte, left, right, nametables, palette);
+    memory::write_oam(u, port, byte, oam);
+    let next = registers::write_unit(u, port, byte);
+    unit::done(0, next)
 }
 
 // 256 writes of port 4 with the page's bytes in order.

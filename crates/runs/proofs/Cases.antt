@@ -38,7 +38,7 @@ module _ (u : Ppu) (l r n o p b f : List ℕ) (s : Bool) (k : ℕ) (hs : s ≡ l
   abbrev at : State
   at = state u (lineMemory l r n o p b f)
 
-  same-run : k ≡ refusalOf (runCall own why most) at
+  pub same-run : k ≡ refusalOf (runCall own why most) at
   unfolding refusalOf plainRefusal
   same-run = hk ∙ rw (hs, lt-ltb why 3 (omega arith)) (ap (order true (isWellFormed u) _ true) (sym (and-none (isDrawing u))))
 

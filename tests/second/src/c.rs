@@ -6,6 +6,9 @@
 
 #![allow(clippy::too_many_arguments, clippy::missing_safety_doc)]
 
+#[path = "c/shared.rs"]
+pub mod shared;
+
 use second::calls;
 use second::memory;
 use second::text;

@@ -18,6 +18,10 @@ pub enum Refusal {
     Malformed = 3,
     Drawing = 4,
     Request = 5,
+    /// Of two units alone: the calling unit could write the tables that it shares.
+    Writable = 6,
+    /// Of two units alone: there is no unit of that number.
+    UnitNumber = 7,
 }
 
 #[derive(Clone, Copy, Debug, Default, PartialEq, Eq)]
@@ -54,7 +58,7 @@ struct Done {
 
 type Outcome = Result<(Unit, Done), Refusal>;
 
-fn fixed<const N: usize>(slice: &[u8]) -> Result<&[u8; N], Refusal> {
+pub(crate) fn fixed<const N: usize>(slice: &[u8]) -> Result<&[u8; N], Refusal> {
     slice.try_into().map_err(|_| Refusal::Length)
 }
 
@@ -68,7 +72,7 @@ fn nametables_of<M: AsRef<[u8]>>(board: Board, memory: M) -> Result<M, Refusal> 
     is_right.then_some(memory).ok_or(Refusal::Length)
 }
 
-fn loaded(record: &[u8; RECORD]) -> Result<Unit, Refusal> {
+pub(crate) fn loaded(record: &[u8; RECORD]) -> Result<Unit, Refusal> {
     Unit::from_record(record).ok_or(Refusal::Malformed)
 }
 
@@ -91,7 +95,7 @@ fn call(record: &mut [u8], work: impl FnOnce(&[u8; RECORD]) -> Outcome) -> Answe
     }
 }
 
-fn refused(refusal: Refusal) -> Answer {
+pub(crate) fn refused(refusal: Refusal) -> Answer {
     Answer { number: refusal as u8, ..Answer::default() }
 }
 
@@ -169,7 +173,7 @@ pub fn dma(record: &mut [u8], oam: &mut [u8], page: &[u8]) -> Answer {
 }
 
 /// The reason to stop that a number stands for; 0 is none.
-fn reason_of(number: u8) -> Result<Option<Reason>, Refusal> {
+pub(crate) fn reason_of(number: u8) -> Result<Option<Reason>, Refusal> {
     match number {
         RUN_ALL => Ok(None),
         UNTIL_NMI => Ok(Some(Reason::Nmi)),

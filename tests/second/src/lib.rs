@@ -11,6 +11,7 @@
 //! * `overflow`: the search that sets status bit 5
 //! * `colours`: how each pixel becomes a finished colour
 //! * `calls`: fresh, read, write, dma, run, search, play on a record and byte slices, refusals included
+//! * `shared`: read, write, dma, run by one of two units that share the tables and both line buffers
 //! * `log`: the records of a log, and the player of logs
 //! * `text`: the text layer, which stands above the unit: text of a page, page of a text
 
@@ -21,6 +22,7 @@ pub mod memory;
 pub mod overflow;
 pub mod picture;
 pub mod runs;
+pub mod shared;
 pub mod text;
 pub mod unit;
 

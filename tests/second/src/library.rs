@@ -2,6 +2,9 @@
 
 #![allow(clippy::too_many_arguments)]
 
+#[path = "library/shared.rs"]
+pub mod shared;
+
 extern "C" {
     fn ppu_fresh(unit: *mut u8, unit_size: usize, board: u8) -> u64;
     fn ppu_read(

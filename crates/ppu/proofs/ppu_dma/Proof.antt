@@ -1,5 +1,5 @@
 use Rattle.model.proofs.Accepted.{form-long}
-use Rattle.ppu.proofs.Cases.{export-cases}
+use Rattle.calls_records.proofs.Cases.{export-cases}
 use borrow.Author.Needs.{needs}
 use Rattle.ppu.proofs.ppu_dma.Statement.{statement}
 use Rattle.ppu.proofs.ppu_dma.Tie as tie

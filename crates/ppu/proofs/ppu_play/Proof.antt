@@ -4,7 +4,7 @@ use Rattle.ppu.proofs.ppu_play.Statement.{statement}
 use Rattle.ppu.proofs.ppu_play.Tie as tie
 use Rattle.ppu.proofs.ppu_play.Reads as reads
 use Rattle.ppu.proofs.ppu_play.Lts as lts
-use Rattle.ppu.proofs.play_entry.Reads as play-entry-reads
+use Rattle.calls_records.proofs.play_entry.Reads as play-entry-reads
 use Rattle.reader.proofs.read_at.Reads as read-at-reads
 
 read-at-requires : tie.Need-read-at-requires

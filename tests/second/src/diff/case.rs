@@ -4,9 +4,12 @@
 //!
 //! `NAME:N` lends another length than the right one, which for nametable RAM the record's board says;
 //! `NAME@OFFSET=BYTES` are bytes that are not zero, `BYTES*N` being N times the same; all else is zero.
-//! Lengths, `N`, `most`, `reason` and `scanline` are decimal, all else is hex.
+//! Lengths, `N`, `most`, `reason`, `scanline` and `which` are decimal, all else is hex. Of two units `unit`,
+//! `nametables`, `oam` and `palette` are unit 0's, `unit1`, `nametables1`, `oam1` and `palette1` unit 1's.
 
-use crate::world::{Call, Kind, Name, World, SLACK};
+use crate::call::{Call, Kind};
+use crate::isolation;
+use crate::world::{Name, World, SLACK};
 use std::fmt::Write;
 
 #[derive(Clone)]
@@ -21,11 +24,13 @@ pub struct Outcome {
     pub second: (u64, World),
     /// Whether a page that was written gives its rows back, on either side.
     pub back: [bool; 2],
+    /// Whether a shared call left what it may not touch, and no picture that is not its own.
+    pub kept: [bool; 2],
 }
 
 impl Outcome {
     pub fn differs(&self) -> bool {
-        self.library != self.second || self.back != [true, true]
+        self.library != self.second || self.back != [true, true] || self.kept != [true, true]
     }
 }
 
@@ -70,34 +75,37 @@ impl Case {
         let (library, second) = (on(Call::on_library), on(Call::on_second));
         let back =
             [self.call.back_on_library(library.0, &library.1), self.call.back_on_second(second.0, &second.1)];
-        Outcome { library, second, back }
+        let kept = [&library, &second]
+            .map(|(answer, after)| isolation::holds(&self.call, *answer, &self.before, after));
+        Outcome { library, second, back, kept }
     }
 
     pub fn text(&self) -> String {
         let call = &self.call;
         let mut text = call.kind.text().to_string();
-        match call.kind {
+        if call.kind.is_shared() {
+            write!(text, " which={}", call.which).unwrap();
+        }
+        match call.kind.plain() {
             Kind::Fresh => write!(text, " board={:02X}", call.byte).unwrap(),
             Kind::Read => write!(text, " address={:04X}", call.address).unwrap(),
             Kind::Write => write!(text, " address={:04X} byte={:02X}", call.address, call.byte).unwrap(),
             Kind::Run => write!(text, " most={} reason={}", call.most, call.reason).unwrap(),
             Kind::Search => write!(text, " scanline={}", call.scanline).unwrap(),
-            Kind::Dma | Kind::Play | Kind::Text | Kind::Page => {}
+            _ => {}
         }
         for name in Name::ALL {
-            let right = name.length(self.before.board());
+            let right = self.before.length(name);
             if let Some(length) = call.lengths[name as usize].filter(|&length| length != right) {
                 write!(text, " {}:{length}", name.text()).unwrap();
             }
         }
-        let mut shown = 0;
-        if call.kind.has_unit() {
-            write!(text, " unit={}", hex(&self.before.of(Name::Unit)[..16])).unwrap();
-            shown = 16;
+        for &record in call.kind.records() {
+            write!(text, " {}={}", record.text(), hex(&self.before.of(record)[..16])).unwrap();
         }
         for name in Name::ALL {
             let bytes = self.before.of(name);
-            let mut at = if name == Name::Unit { shown } else { 0 };
+            let mut at = if call.kind.records().contains(&name) { 16 } else { 0 };
             while at < bytes.len() {
                 let run = run_length(&bytes[at..]);
                 if bytes[at] != 0 {
@@ -132,6 +140,7 @@ impl Case {
             "most" => self.call.most = value.parse().ok()?,
             "reason" => self.call.reason = value.parse().ok()?,
             "scanline" => self.call.scanline = value.parse().ok()?,
+            "which" => self.call.which = value.parse().ok()?,
             _ => {
                 let (memory, offset) = left.split_once('@').unwrap_or((left, "0"));
                 let (offset, bytes) = (usize::from_str_radix(offset, 16).ok()?, unhex(value)?);
@@ -144,7 +153,7 @@ impl Case {
 
     /// The same difference from less: bytes become zero as long as both sides still differ.
     pub fn shortened(mut self) -> Case {
-        while self.call.kind == Kind::Run && self.call.most > 0 {
+        while self.call.kind.plain() == Kind::Run && self.call.most > 0 {
             let mut fewer = self.clone();
             fewer.call.most = if fewer.call.most > 1024 { fewer.call.most / 2 } else { fewer.call.most - 1 };
             if !fewer.outcome().differs() {
@@ -154,7 +163,7 @@ impl Case {
         }
         for name in Name::ALL {
             let all = self.before.of(name).len();
-            let mut size = if name == Name::Unit { 1 } else { all };
+            let mut size = if matches!(name, Name::Unit | Name::Unit1) { 1 } else { all };
             while size > 0 {
                 for at in (0..all).step_by(size) {
                     self.simplify(name, at, all.min(at + size));
@@ -199,14 +208,20 @@ impl Case {
             if rest != 0 {
                 write!(text, ", bits 18 to 23 {rest:02X}").unwrap();
             }
-            if self.call.kind.has_unit() {
-                write!(text, ", unit {}", hex(&world.of(Name::Unit)[..16])).unwrap();
+            for &record in self.call.kind.records() {
+                write!(text, ", {} {}", record.text(), hex(&world.of(record)[..16])).unwrap();
             }
             text.push('\n');
         }
         for (side, back) in [("library", outcome.back[0]), ("second ", outcome.back[1])] {
             if !back {
                 writeln!(text, "{side}: the text of the page is not its rows again").unwrap();
+            }
+        }
+        for (side, kept) in [("library", outcome.kept[0]), ("second ", outcome.kept[1])] {
+            if !kept {
+                writeln!(text, "{side}: changes what is not its to change, or leaves another's picture")
+                    .unwrap();
             }
         }
         for name in Name::ALL {

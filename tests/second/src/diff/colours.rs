@@ -1,11 +1,12 @@
 //! Sessions of the finished colours: through all values of what makes them.
 
+use crate::call::Call;
 use crate::random::Random;
 use crate::runs::{known_reason, one_line};
 use crate::scenery;
 use crate::systematic::{refill, unit_at_line};
 use crate::trial::{Stop, Trial};
-use crate::world::{Call, Name};
+use crate::world::Name;
 use second::calls::{RUN_ALL, UNTIL_HIT, UNTIL_NMI};
 
 /// Greyscale off and on with each emphasis: mask bits 0 and 7-5.

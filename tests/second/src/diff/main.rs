@@ -8,19 +8,26 @@
 //! first go through all values of something and are always done whole; the others are random
 //! and end with the time.
 
+mod call;
 mod case;
 mod colours;
+mod isolation;
+mod machine;
 mod mixed;
 mod order;
 mod overflow;
 mod random;
+mod reload;
 mod runs;
 mod scenery;
+mod sequences;
+mod shared;
 mod systematic;
 mod text;
 mod trial;
 mod world;
 
+use call::Kind;
 use case::Case;
 use random::Random;
 use std::process::ExitCode;
@@ -28,12 +35,12 @@ use std::sync::atomic::{AtomicBool, AtomicU64, Ordering};
 use std::sync::Mutex;
 use std::time::{Duration, Instant};
 use trial::{Runs, Stop, Tally, Trial, NUMBERS, REASONS};
-use world::Kind;
 
 const MIXED_CALLS: usize = 2000;
 const PICTURE_CALLS: usize = 500;
 const TEXT_CALLS: usize = 500;
 const RUN_CALLS: usize = 500;
+const SHARED_CALLS: usize = 400;
 
 struct Options {
     seed: u64,
@@ -85,10 +92,12 @@ fn session(seed: u64, number: u64, trial: &mut Trial) -> Result<(), Stop> {
         }
         left -= parts;
     }
-    match left % 7 {
+    match left % 10 {
         0 | 3 => mixed::pictures(trial, &mut random, PICTURE_CALLS),
         5 => text::session(trial, &mut random, TEXT_CALLS),
         6 => runs::session(trial, &mut random, RUN_CALLS),
+        7 | 8 => sequences::session(trial, &mut random, SHARED_CALLS),
+        9 => reload::session(trial, &mut random),
         _ => mixed::session(trial, &mut random, MIXED_CALLS),
     }
 }
@@ -174,7 +183,7 @@ fn print_tally(tally: &Tally) {
         let refused: Vec<String> =
             (1..NUMBERS).filter(|&n| answers[n] > 0).map(|n| format!("{} refused {n}", answers[n])).collect();
         let refused = if refused.is_empty() { String::new() } else { format!(", {}", refused.join(", ")) };
-        println!("  {:6} {:9} calls: {} done{refused}", kind.text(), tally.of_kind(kind), answers[0]);
+        println!("  {:12} {:9} calls: {} done{refused}", kind.text(), tally.of_kind(kind), answers[0]);
     }
     println!(
         "  {} lines run, hit set {} times, overflow {}; pixels of runs of one line: {} sprite, {} background",
@@ -201,6 +210,7 @@ fn print_tally(tally: &Tally) {
         tally.bare_tiles,
         tally.answers[Kind::Page as usize][0]
     );
+    tally.isolation.print();
 }
 
 /// What became of the runs, by their reason to stop.
@@ -242,6 +252,9 @@ fn is_whole(tally: &Tally) -> bool {
         Kind::Run | Kind::Search => vec![0, 2, 3, 5],
         Kind::Text => vec![0, 2],
         Kind::Page => vec![0, 2, 8],
+        Kind::SharedRead | Kind::SharedWrite => vec![0, 1, 2, 3, 4, 6, 7],
+        Kind::SharedDma => vec![0, 2, 3, 6, 7],
+        Kind::SharedRun => vec![0, 2, 3, 5, 6, 7],
     };
     let lines = [
         tally.went_on,
@@ -261,6 +274,7 @@ fn is_whole(tally: &Tally) -> bool {
         && tally.four_pages.are_whole()
         && tally.looked.keys().copied().eq(9..=64)
         && tally.bare_tiles > 0
+        && tally.isolation.is_whole()
 }
 
 /// The kept cases, then the sessions, with a report of what was done.

@@ -1,11 +1,12 @@
 //! Random sessions: long ones with the record and the memory carried along, and drawn lines.
 
+use crate::call::{Call, Kind};
 use crate::random::Random;
 use crate::runs::one_line;
 use crate::scenery;
 use crate::systematic::{refill, some_call};
 use crate::trial::{Stop, Trial};
-use crate::world::{Call, Kind, Name, SLACK};
+use crate::world::{Name, SLACK};
 
 use Kind::*;
 

@@ -1,11 +1,12 @@
 //! The order of refusals: 5, 2 for a record, 3, 2 for memory, 1, 4.
 
+use crate::call::{Call, Kind};
 use crate::random::Random;
 use crate::runs::known_reason;
 use crate::scenery::{self, BOARDS, FOUR_PAGES, TWO_PAGES};
 use crate::systematic::{refill, unit_at_line};
 use crate::trial::{Stop, Trial};
-use crate::world::{Call, Kind, Name};
+use crate::world::Name;
 
 /// Calls for a set in which no memory's length is wrong.
 const ROUNDS: usize = 16;

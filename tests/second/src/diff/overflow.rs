@@ -1,11 +1,12 @@
 //! Sessions of the search for overflow: through all values of what it looks at, and lines beside it.
 
+use crate::call::Call;
 use crate::random::Random;
 use crate::runs::one_line;
 use crate::scenery::{self, crowd, in_range, is_in_range, out_of_range, sprite_height};
 use crate::systematic::{random_slots, refill, unit_at_line};
 use crate::trial::{Stop, Trial};
-use crate::world::{Call, Name};
+use crate::world::Name;
 use second::calls::RUN_ALL;
 
 const SPRITES: usize = 64;

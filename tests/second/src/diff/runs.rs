@@ -1,11 +1,12 @@
 //! Sessions of runs: every reason to stop, from every line and to lengths about each bound, and scenes in
 //! which sprite 0 often hits.
 
+use crate::call::{Call, Kind};
 use crate::random::Random;
 use crate::scenery::{self, next_line};
 use crate::systematic::{refill, unit_at_line};
 use crate::trial::{Stop, Trial, REASONS};
-use crate::world::{Call, Kind, Name};
+use crate::world::Name;
 use second::calls::{RUN_ALL, UNTIL_HIT, UNTIL_NMI};
 
 const SWITCHES: u8 = 0x18;

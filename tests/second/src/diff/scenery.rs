@@ -11,6 +11,10 @@ pub const BOARDS: [u8; 10] = [0, 1, 2, 3, 4, 8, 9, 10, 11, 12];
 pub const TWO_PAGES: [u8; 8] = [0, 1, 2, 3, 8, 9, 10, 11];
 pub const FOUR_PAGES: [u8; 2] = [4, 12];
 
+/// Boards on which pattern memory cannot be written, so that two units can share it, and on which it can.
+pub const FIXED: [u8; 5] = [0, 1, 2, 3, 4];
+pub const WRITABLE: [u8; 5] = [8, 9, 10, 11, 12];
+
 /// A well-formed board byte, often one with four pages.
 pub fn board(random: &mut Random) -> u8 {
     if random.one_in(4) {
@@ -40,6 +44,13 @@ pub fn unit(random: &mut Random) -> [u8; 16] {
     unit[12..14].copy_from_slice(&line.to_le_bytes());
     unit[14] = u8::from(!random.one_in(12));
     unit[15] = board(random);
+    unit
+}
+
+/// A record that is well formed, of a unit that can share its pattern tables.
+pub fn sharing_unit(random: &mut Random) -> [u8; 16] {
+    let mut unit = unit(random);
+    unit[15] &= 7;
     unit
 }
 

@@ -1,25 +1,39 @@
 //! Sessions that go through all values of something.
 
+use crate::call::{Call, Kind, PLAIN_KINDS, SHARED, UNIT_KINDS};
 use crate::colours;
 use crate::order::{self, SUBJECTS};
 use crate::overflow;
 use crate::random::Random;
+use crate::reload;
 use crate::runs::{self, one_line, some_reason};
 use crate::scenery::{self, BOARDS, FOUR_PAGES, TWO_PAGES};
+use crate::sequences;
+use crate::shared;
 use crate::text;
 use crate::trial::{Stop, Trial};
-use crate::world::{Call, Kind, Name, KINDS, SLACK, UNIT_KINDS};
+use crate::world::{Name, SLACK};
 
 pub type Session = fn(&mut Trial, &mut Random, usize) -> Result<(), Stop>;
 
 /// Each kind of session, with the number of parts that it comes in.
-pub const SESSIONS: [(&str, Session, usize); 42] = [
+pub const SESSIONS: [(&str, Session, usize); 52] = [
     ("boards", boards, 1),
     ("addresses", addresses, 16),
     ("ports", ports, 8),
-    ("lengths", lengths, KINDS),
-    ("pairs of lengths", pairs_of_lengths, KINDS),
+    ("lengths", lengths, PLAIN_KINDS),
+    ("pairs of lengths", pairs_of_lengths, PLAIN_KINDS),
     ("records", records, UNIT_KINDS),
+    ("unit numbers", shared::numbers, SHARED.len()),
+    ("order of refusals of two units", shared::sets, 2 * SHARED.len()),
+    ("the other of two units", shared::others, 2 * SHARED.len()),
+    ("boards of two units", shared::boards, SHARED.len()),
+    ("lengths of two units", shared::lengths, SHARED.len()),
+    ("pairs of lengths of two units", shared::pairs_of_lengths, SHARED.len()),
+    ("video memory of two units", shared::video_memory, 4),
+    ("runs of two units", shared::runs, 8),
+    ("two units and each alone", sequences::first, 40),
+    ("reloads of one of two units", reload::first, 4),
     ("wide fields", wide_fields, 15),
     ("video memory", video_memory, 2 * BOARDS.len()),
     ("scroll writes", scroll_writes, 8),
@@ -94,7 +108,7 @@ pub fn unit_at_line(random: &mut Random, line: u16) -> [u8; 16] {
 }
 
 /// A call of the kind, its arguments random and mostly accepted; for play a record is put into the log,
-/// for the text layer a table and a page or rows are made.
+/// for the text layer a table and a page or rows are made. A shared call is by either of two units.
 pub fn some_call(trial: &mut Trial, random: &mut Random, kind: Kind) -> Call {
     let address = match random.below(16) {
         0 => random.pick(&[0, 0x1FF8, 0x1FFF, 0x4000, 0x4007, 0x8000, 0xFFFF]),
@@ -129,6 +143,7 @@ pub fn some_call(trial: &mut Trial, random: &mut Random, kind: Kind) -> Call {
             trial.set(Name::Rows, &scenery::rows(random, &table, strangers));
             Call::page()
         }
+        shared => some_call(trial, random, shared.plain()).by(random.below(2) as u8),
     }
 }
 

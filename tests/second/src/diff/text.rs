@@ -1,11 +1,12 @@
 //! Sessions of the text layer: through all values of something, and random ones.
 
+use crate::call::{Call, Kind};
 use crate::mixed::mislength;
 use crate::random::Random;
 use crate::scenery;
 use crate::systematic::refill;
 use crate::trial::{Stop, Trial};
-use crate::world::{Call, Kind, Name};
+use crate::world::Name;
 use second::memory::nametable_length;
 use second::unit::Board;
 

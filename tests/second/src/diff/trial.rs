@@ -1,13 +1,17 @@
 //! Both sides of a session: the same calls on each, compared after every call.
 
+use crate::call::{Call, Kind, KINDS};
 use crate::case::Case;
+use crate::isolation::{self, Isolation};
+use crate::machine::Machine;
 use crate::scenery::{is_in_range, next_line, sprite_height};
-use crate::world::{has_four_pages, Call, Kind, Name, World, KINDS};
+use crate::world::{has_four_pages, Name};
 use std::collections::BTreeMap;
 
 /// Why a session ends before its time.
 pub enum Stop {
-    /// The sides differ after the call of this number, or a page it wrote does not give its rows back.
+    /// The sides differ after the call of this number, or a page it wrote does not give its rows back, or a
+    /// shared call changed what it may not.
     Difference(u64),
     /// The call that was asked for is reached.
     Reached(Box<Case>),
@@ -15,7 +19,7 @@ pub enum Stop {
     Late,
 }
 
-/// Numbers that a call can answer, 6 and 7 being none.
+/// Numbers that a call can answer.
 pub const NUMBERS: usize = 9;
 
 /// Reasons to stop that a run can have, none among them.
@@ -149,6 +153,7 @@ pub struct Tally {
     pub backdrop_override: u64,
     /// Tiles without a character, as text calls count them.
     pub bare_tiles: u64,
+    pub isolation: Isolation,
 }
 
 impl Tally {
@@ -175,6 +180,7 @@ impl Tally {
         self.emphasis += other.emphasis;
         self.backdrop_override += other.backdrop_override;
         self.bare_tiles += other.bare_tiles;
+        self.isolation.add(&other.isolation);
     }
 
     pub fn of_kind(&self, kind: Kind) -> u64 {
@@ -187,8 +193,7 @@ impl Tally {
 }
 
 pub struct Trial<'a> {
-    library: World,
-    second: World,
+    machine: Machine,
     pub tally: Tally,
     calls: u64,
     /// The call before which to stop, and give the case.
@@ -198,25 +203,42 @@ pub struct Trial<'a> {
 
 impl<'a> Trial<'a> {
     pub fn new(until: Option<u64>, late: &'a dyn Fn() -> bool) -> Trial<'a> {
-        Trial { library: World::new(), second: World::new(), tally: Tally::default(), calls: 0, until, late }
+        Trial { machine: Machine::new(), tally: Tally::default(), calls: 0, until, late }
     }
 
+    /// The record of the unit, or of one of two.
     pub fn unit(&self) -> [u8; 16] {
-        self.library.of(Name::Unit)[..16].try_into().unwrap()
+        self.unit_of(0)
     }
 
-    /// The right length of a memory for the unit as it stands, and wrong ones.
+    pub fn unit_of(&self, which: u8) -> [u8; 16] {
+        self.machine.library.unit(which)
+    }
+
+    /// The right length of a memory for its unit as it stands, and wrong ones.
     pub fn length(&self, name: Name) -> usize {
-        name.length(self.library.board())
+        self.machine.library.length(name)
     }
 
     pub fn wrong_lengths(&self, name: Name) -> Vec<usize> {
-        name.wrong_lengths(self.library.board())
+        self.machine.library.wrong_lengths(name)
     }
 
     /// A memory, which is the same on both sides.
     pub fn of(&self, name: Name) -> &[u8] {
-        self.library.of(name)
+        self.machine.of(name)
+    }
+
+    pub fn machine(&self) -> &Machine {
+        &self.machine
+    }
+
+    /// Plays on another machine for a while.
+    pub fn on<T>(&mut self, machine: &mut Machine, play: impl FnOnce(&mut Trial) -> T) -> T {
+        std::mem::swap(&mut self.machine, machine);
+        let made = play(self);
+        std::mem::swap(&mut self.machine, machine);
+        made
     }
 
     /// Fills the front of a memory, the same on both sides.
@@ -225,32 +247,33 @@ impl<'a> Trial<'a> {
     }
 
     pub fn set_at(&mut self, name: Name, at: usize, bytes: &[u8]) {
-        for world in [&mut self.library, &mut self.second] {
-            world.of_mut(name)[at..at + bytes.len()].copy_from_slice(bytes);
-        }
+        self.machine.set_at(name, at, bytes);
     }
 
     /// The call on both sides; its packed answer if they agree in all.
     pub fn call(&mut self, call: &Call) -> Result<u64, Stop> {
         if self.until == Some(self.calls) {
-            let case = Case { call: call.clone(), before: self.library.clone() };
+            let case = Case { call: call.clone(), before: self.machine.library.clone() };
             return Err(Stop::Reached(Box::new(case)));
         }
         if self.calls.is_multiple_of(256) && (self.late)() {
             return Err(Stop::Late);
         }
-        let before = self.unit();
-        let answer = call.on_library(&mut self.library);
-        let expected = call.on_second(&mut self.second);
-        let alike = answer == expected && self.library == self.second;
-        if !alike
-            || !call.back_on_library(answer, &self.library)
-            || !call.back_on_second(answer, &self.second)
-        {
+        let unit = self.unit_of(call.which);
+        let before = call.kind.is_shared().then(|| self.machine.library.clone());
+        let Machine { library, second } = &mut self.machine;
+        let answer = call.on_library(library);
+        let expected = call.on_second(second);
+        let alike = answer == expected && library == second;
+        let kept = before.as_ref().is_none_or(|before| isolation::holds(call, answer, before, library));
+        if !alike || !kept || !call.back_on_library(answer, library) || !call.back_on_second(answer, second) {
             return Err(Stop::Difference(self.calls));
         }
         self.calls += 1;
-        self.count(call, answer, &before);
+        self.count(call, answer, &unit);
+        if let Some(before) = &before {
+            self.tally.isolation.count(call, answer, before);
+        }
         Ok(answer)
     }
 
@@ -276,13 +299,14 @@ impl<'a> Trial<'a> {
                 tally.went_on += u64::from(before[0] & 0x80 != 0 && answer >> 32 > to_241);
                 self.count_lines(answer >> 32, before);
             }
-            Kind::Fresh | Kind::Read | Kind::Write | Kind::Dma | Kind::Page => {}
+            Kind::SharedRun => tally.lines_run += answer >> 32,
+            _ => {}
         }
     }
 
     /// Counts what lines did; `before` is the record before them.
     fn count_lines(&mut self, lines: u64, before: &[u8; 16]) {
-        let raised = self.library.of(Name::Unit)[2] & !before[2];
+        let raised = self.machine.of(Name::Unit)[2] & !before[2];
         self.tally.lines_run += lines;
         self.tally.hits += u64::from(raised >> 6 & 1);
         self.tally.overflows += u64::from(raised >> 5 & 1);
@@ -296,7 +320,7 @@ impl<'a> Trial<'a> {
         tally.emphasis += u64::from(before[1] >> 5 != 0);
         tally.backdrop_override += u64::from(!drawn && before[5] & 0x3F == 0x3F);
         if drawn {
-            let line = &self.library.of(Name::Line)[..256];
+            let line = &self.machine.of(Name::Line)[..256];
             tally.sprite_pixels += line.iter().filter(|&&p| p >= 16).count() as u64;
             let background = line.iter().filter(|&&p| p > 0 && p < 16).count() as u64;
             tally.background_pixels += background;
@@ -310,9 +334,9 @@ impl<'a> Trial<'a> {
     /// Counts a drawn line on which the search is not what a count of the sprites in range would be.
     fn count_overflow(&mut self, before: &[u8; 16]) {
         let (line, height) = (next_line(before), sprite_height(before));
-        let sprites = self.library.of(Name::Oam)[..256].chunks(4);
+        let sprites = self.machine.of(Name::Oam)[..256].chunks(4);
         let are_many = sprites.filter(|sprite| is_in_range(sprite[0], line, height)).count() > 8;
-        let is_set = self.library.of(Name::Unit)[2] & 0x20 != 0;
+        let is_set = self.machine.of(Name::Unit)[2] & 0x20 != 0;
         if before[2] & 0x20 == 0 {
             self.tally.passed_over += u64::from(are_many && !is_set);
             self.tally.mistaken += u64::from(!are_many && is_set);

@@ -1,6 +1,4 @@
-//! The memories that a call is lent, and the calls themselves, on either side.
-
-use second::calls::RUN_ALL;
+//! The memories that a call is lent, on either side.
 
 /// The memories, in the order in which calls name them.
 #[derive(Clone, Copy, Debug, PartialEq, Eq)]
@@ -21,13 +19,35 @@ pub enum Name {
     Rows,
     /// The table of characters.
     Table,
+    /// What the second of two units has for itself; `Unit`, `Nametables`, `Oam` and `Palette` are then unit 0's.
+    Unit1,
+    Nametables1,
+    Oam1,
+    Palette1,
 }
 
 use Name::*;
 
 impl Name {
-    pub const ALL: [Name; NAMES] =
-        [Unit, Left, Right, Nametables, Oam, Palette, Line, Colours, Page, Log, Screen, Rows, Table];
+    pub const ALL: [Name; NAMES] = [
+        Unit,
+        Left,
+        Right,
+        Nametables,
+        Oam,
+        Palette,
+        Line,
+        Colours,
+        Page,
+        Log,
+        Screen,
+        Rows,
+        Table,
+        Unit1,
+        Nametables1,
+        Oam1,
+        Palette1,
+    ];
 
     pub fn text(self) -> &'static str {
         [
@@ -44,7 +64,30 @@ impl Name {
             "screen",
             "rows",
             "table",
+            "unit1",
+            "nametables1",
+            "oam1",
+            "palette1",
         ][self as usize]
+    }
+
+    /// The same memory of one of two units; what they share, and what is lent to no unit, as it is.
+    pub fn of_unit(self, which: u8) -> Name {
+        match (which, self) {
+            (1, Unit) => Unit1,
+            (1, Nametables) => Nametables1,
+            (1, Oam) => Oam1,
+            (1, Palette) => Palette1,
+            _ => self,
+        }
+    }
+
+    /// The record whose board says how long this memory is.
+    fn record(self) -> Name {
+        match self {
+            Nametables1 => Unit1,
+            _ => Unit,
+        }
     }
 
     /// The right length, of nametable RAM the longest that is right for a board.
@@ -55,7 +98,7 @@ impl Name {
     /// The right length for a unit whose record has that board byte; only nametable RAM goes by it.
     pub fn length(self, board: u8) -> usize {
         match self {
-            Nametables if !has_four_pages(board) => TWO_PAGES,
+            Nametables | Nametables1 if !has_four_pages(board) => TWO_PAGES,
             _ => self.longest(),
         }
     }
@@ -64,7 +107,8 @@ impl Name {
     /// other boards.
     pub fn wrong_lengths(self, board: u8) -> Vec<usize> {
         let right = self.length(board);
-        let others = (self == Nametables).then_some(TWO_PAGES + FOUR_PAGES - right);
+        let is_nametables = matches!(self, Nametables | Nametables1);
+        let others = is_nametables.then_some(TWO_PAGES + FOUR_PAGES - right);
         [right - 1, right + 1, 0, self.longest() + SLACK].into_iter().chain(others).collect()
     }
 }
@@ -78,10 +122,14 @@ pub fn has_four_pages(board: u8) -> bool {
     board & 7 == 4
 }
 
-pub const NAMES: usize = 13;
+pub const NAMES: usize = 17;
+
+/// Each unit's own memory, as unit 0 has it.
+pub const OWN: [Name; 4] = [Unit, Nametables, Oam, Palette];
 
 /// A log may be longer than the record at its front.
-const LONGEST: [usize; NAMES] = [16, 4096, 4096, FOUR_PAGES, 256, 32, 256, 512, 256, 4, 1024, 960, 256];
+const LONGEST: [usize; NAMES] =
+    [16, 4096, 4096, FOUR_PAGES, 256, 32, 256, 512, 256, 4, 1024, 960, 256, 16, FOUR_PAGES, 256, 32];
 
 /// Bytes beyond the longest right length that a call may be lent.
 pub const SLACK: usize = 64;
@@ -123,9 +171,18 @@ impl World {
         World(LONGEST.map(Memory::new))
     }
 
-    /// The board byte of the unit's record.
-    pub fn board(&self) -> u8 {
-        self.of(Unit)[15]
+    /// The right length of a memory, of nametable RAM for its unit as that stands, and wrong ones.
+    pub fn length(&self, name: Name) -> usize {
+        name.length(self.of(name.record())[15])
+    }
+
+    pub fn wrong_lengths(&self, name: Name) -> Vec<usize> {
+        name.wrong_lengths(self.of(name.record())[15])
+    }
+
+    /// The record of one of two units; of unit 0 for any other number.
+    pub fn unit(&self, which: u8) -> [u8; 16] {
+        self.of(Unit.of_unit(which))[..16].try_into().unwrap()
     }
 
     pub fn of(&self, name: Name) -> &[u8] {
@@ -135,195 +192,10 @@ impl World {
     pub fn of_mut(&mut self, name: Name) -> &mut [u8] {
         self.0[name as usize].bytes_mut()
     }
-}
 
-#[derive(Clone, Copy, Debug, PartialEq, Eq)]
-pub enum Kind {
-    Fresh,
-    Read,
-    Write,
-    Dma,
-    Run,
-    Play,
-    /// The search for overflow.
-    Search,
-    /// The text of a page.
-    Text,
-    /// The page of a text.
-    Page,
-}
-
-/// The calls on a unit, which come first, and all.
-pub const UNIT_KINDS: usize = 7;
-pub const KINDS: usize = UNIT_KINDS + 2;
-
-impl Kind {
-    pub const ALL: [Kind; KINDS] = [
-        Kind::Fresh,
-        Kind::Read,
-        Kind::Write,
-        Kind::Dma,
-        Kind::Run,
-        Kind::Play,
-        Kind::Search,
-        Kind::Text,
-        Kind::Page,
-    ];
-
-    pub fn text(self) -> &'static str {
-        ["fresh", "read", "write", "dma", "run", "play", "search", "text", "page"][self as usize]
+    /// The memories as they are lent.
+    pub fn slices(&mut self, lengths: [usize; NAMES]) -> [&mut [u8]; NAMES] {
+        let mut lengths = lengths.into_iter();
+        self.0.each_mut().map(|memory| &mut memory.bytes_mut()[..lengths.next().unwrap_or(0)])
     }
-
-    /// The memories that such a call is lent.
-    pub fn lent(self) -> &'static [Name] {
-        match self {
-            Kind::Fresh => &[Unit],
-            Kind::Read | Kind::Write => &[Unit, Left, Right, Nametables, Oam, Palette],
-            Kind::Dma => &[Unit, Oam, Page],
-            Kind::Run => &[Unit, Left, Right, Nametables, Oam, Palette, Line, Colours],
-            Kind::Play => &[Unit, Log, Left, Right, Nametables, Oam, Palette, Line, Colours],
-            Kind::Search => &[Unit, Oam],
-            Kind::Text | Kind::Page => &[Screen, Rows, Table],
-        }
-    }
-
-    /// Whether such a call is of a unit; those of the text layer are not.
-    pub fn has_unit(self) -> bool {
-        self.lent().contains(&Unit)
-    }
-}
-
-/// A call and its arguments; `byte` is the board of fresh, `most` and `reason` are the lines of run and its
-/// reason to stop, `scanline` is the line of search. What play plays stands in the log that it is lent.
-#[derive(Clone, Debug, PartialEq, Eq)]
-pub struct Call {
-    pub kind: Kind,
-    pub address: u16,
-    pub byte: u8,
-    pub most: u16,
-    pub reason: u8,
-    pub scanline: u16,
-    /// Lengths that are lent instead of the right ones.
-    pub lengths: [Option<usize>; NAMES],
-}
-
-macro_rules! performed {
-    ($side:path, $layer:path, $call:expr, $world:expr) => {{
-        use $layer as layer;
-        use $side as side;
-        let (call, lengths) = ($call, $call.lent_to($world));
-        let [unit, left, right, nametables, oam, palette, line, colours, page, log, screen, rows, table] =
-            &mut $world.0;
-        let unit = &mut unit.bytes_mut()[..lengths[0]];
-        let left = &mut left.bytes_mut()[..lengths[1]];
-        let right = &mut right.bytes_mut()[..lengths[2]];
-        let nametables = &mut nametables.bytes_mut()[..lengths[3]];
-        let oam = &mut oam.bytes_mut()[..lengths[4]];
-        let palette = &mut palette.bytes_mut()[..lengths[5]];
-        let line = &mut line.bytes_mut()[..lengths[6]];
-        let colours = &mut colours.bytes_mut()[..lengths[7]];
-        let page = &mut page.bytes_mut()[..lengths[8]];
-        let log = &mut log.bytes_mut()[..lengths[9]];
-        let screen = &mut screen.bytes_mut()[..lengths[10]];
-        let rows = &mut rows.bytes_mut()[..lengths[11]];
-        let table = &mut table.bytes_mut()[..lengths[12]];
-        match call.kind {
-            Kind::Fresh => side::fresh(unit, call.byte).into(),
-            Kind::Read => side::read(unit, call.address, left, right, nametables, oam, palette).into(),
-            Kind::Write => {
-                side::write(unit, call.address, call.byte, left, right, nametables, oam, palette).into()
-            }
-            Kind::Dma => side::dma(unit, oam, page).into(),
-            Kind::Run => {
-                let (most, reason) = (call.most, call.reason);
-                side::run(unit, most, reason, left, right, nametables, oam, palette, line, colours).into()
-            }
-            Kind::Play => side::play(unit, log, left, right, nametables, oam, palette, line, colours).into(),
-            Kind::Search => side::search(unit, call.scanline, oam).into(),
-            Kind::Text => layer::text(screen, table, rows).into(),
-            Kind::Page => layer::page(rows, table, screen).into(),
-        }
-    }};
-}
-
-impl Call {
-    pub fn new(kind: Kind) -> Call {
-        Call { kind, address: 0x2000, byte: 0, most: 0, reason: RUN_ALL, scanline: 0, lengths: [None; NAMES] }
-    }
-
-    pub fn fresh(board: u8) -> Call {
-        Call { byte: board, ..Call::new(Kind::Fresh) }
-    }
-
-    pub fn read(address: u16) -> Call {
-        Call { address, ..Call::new(Kind::Read) }
-    }
-
-    pub fn write(address: u16, byte: u8) -> Call {
-        Call { address, byte, ..Call::new(Kind::Write) }
-    }
-
-    pub fn dma() -> Call {
-        Call::new(Kind::Dma)
-    }
-
-    pub fn run(most: u16, reason: u8) -> Call {
-        Call { most, reason, ..Call::new(Kind::Run) }
-    }
-
-    pub fn play() -> Call {
-        Call::new(Kind::Play)
-    }
-
-    pub fn search(scanline: u16) -> Call {
-        Call { scanline, ..Call::new(Kind::Search) }
-    }
-
-    pub fn text() -> Call {
-        Call::new(Kind::Text)
-    }
-
-    pub fn page() -> Call {
-        Call::new(Kind::Page)
-    }
-
-    pub fn with_length(mut self, name: Name, length: usize) -> Call {
-        self.lengths[name as usize] = Some(length);
-        self
-    }
-
-    /// The lengths that are lent, right ones by the board of the unit as it stands.
-    fn lent_to(&self, world: &World) -> [usize; NAMES] {
-        Name::ALL.map(|name| self.lengths[name as usize].unwrap_or(name.length(world.board())))
-    }
-
-    pub fn on_library(&self, world: &mut World) -> u64 {
-        performed!(library, library, self, world)
-    }
-
-    pub fn on_second(&self, world: &mut World) -> u64 {
-        performed!(second::calls, second::text, self, world)
-    }
-
-    /// Whether the call, with that answer, did not write a page, or the library's text of the page is
-    /// its rows again.
-    pub fn back_on_library(&self, answer: u64, world: &World) -> bool {
-        !self.wrote_page(answer) || gives_back(world, library::text)
-    }
-
-    pub fn back_on_second(&self, answer: u64, world: &World) -> bool {
-        !self.wrote_page(answer)
-            || gives_back(world, |page, table, rows| second::text::text(page, table, rows).into())
-    }
-
-    fn wrote_page(&self, answer: u64) -> bool {
-        self.kind == Kind::Page && answer & 255 == 0
-    }
-}
-
-/// The way back: the page's text is the rows, and no tile of it is counted.
-fn gives_back(world: &World, text: fn(&[u8], &[u8], &mut [u8]) -> u64) -> bool {
-    let [page, rows, table] = [Screen, Rows, Table].map(|name| &world.of(name)[..name.longest()]);
-    let mut back: Vec<u8> = rows.iter().map(|&byte| !byte).collect();
-    text(page, table, &mut back) == 0 && back == rows
 }
