@@ -79,7 +79,7 @@ static int take_record(uint8_t which)
         return 0;
     logs[which].records++;
     need(length == sizeof record, "%s: record %lu is cut short", logs[which].name, logs[which].records);
-    need(record[0] == 1 || (record[0] < 3 && record[3] == 0), "%s: record %lu is none", logs[which].name, logs[which].records);
+    need(record[0] == 1 || (record[0] < 3 && record[3] == 0), "%s: record %lu is no log record", logs[which].name, logs[which].records);
     uint16_t n = (uint16_t)(256 * record[1] + record[2]);
     if (record[0] == 0)
         check(which, ppu_shared_read(which, BOTH(unit), n, MEMORY));

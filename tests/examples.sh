@@ -187,6 +187,31 @@ two_refuses() {
     refused=$((refused + 1))
 }
 
+# The logs that two.c cannot play: cut short, unknown, refused, without a whole picture; and what its own mistakes would give.
+two_refuses_logs() {
+    for length in 1 2 3; do
+        { cat "$log" && head -c "$length" "$log"; } >"$bad"
+        two_refuses "$bad: record $(($(stat -c %s "$log") / 4 + 1)) is cut short" "$two" "$chr" "$log" "$bad"
+    done
+    for name in '\x03\x20\x02\x00 is no log record' '\x00\x20\x02\x01 is no log record' '\x02\x00\x01\x01 is no log record' '\x01\x40\x00\x00 was refused with 1' '\x00\x1f\xff\x00 was refused with 1'; do
+        printf '\x02\x01\x06\x00%b' "${name%% *}" >"$bad"
+        two_refuses "$bad: record 2 ${name#* }" "$two" "$chr" "$bad" "$log"
+        two_refuses "$bad: record 2 ${name#* }" "$two" "$chr" "$log" "$bad"
+    done
+    printf '\x02\x01\x06\x00\x01\x20\x01\x1e\x02\x00\x09\x00\x01\x20\x07\x00' >"$bad" # port 7 on line 9, drawing
+    two_refuses "$bad: record 4 was refused with 4" "$two" "$chr" "$log" "$bad"
+    : >"$bad"
+    two_refuses "$bad: it draws no whole picture" "$two" "$chr" "$log" "$bad"
+    printf '\x02\x00\xef\x00' >"$bad" # lines 0 to 238
+    two_refuses "$bad: it draws no whole picture" "$two" "$chr" "$bad" "$log"
+    altered two 's/ppu_shared_run(which,/ppu_shared_run(2,/'
+    two_refuses "$log: record 1 was refused with 7" "$out/altered" "$chr" "$log" "$log"
+    altered two 's/PPU_RUN_ALL, MEMORY/3, MEMORY/'
+    two_refuses "$log: record 1 was refused with 5" "$out/altered" "$chr" "$log" "$log"
+    altered two 's/, LENT(colours)/, colours, 256/'
+    two_refuses "$log: record 1 was refused with 2" "$out/altered" "$chr" "$log" "$log"
+}
+
 # What two.c cannot play: no log and no cartridge, logs that are cut or refused, boards that are none or have writable pattern memory.
 test_two_refusals() {
     local refused=0 two=$out/two-${compilers[0]} chr=examples/picture.chr log=examples/picture.log bad=$out/bad name board length
@@ -212,37 +237,31 @@ test_two_refusals() {
         two_refuses "no board has the number $board" "$two" "$chr" "$log" "$log" 1 "$board"
         two_refuses "no board has the number $board" "$two" "$chr" "$log" "$log" "$board" 1
     done
-    for length in 1 2 3; do
-        { cat "$log" && head -c "$length" "$log"; } >"$bad"
-        two_refuses "$bad: record $(($(stat -c %s "$log") / 4 + 1)) is cut short" "$two" "$chr" "$log" "$bad"
-    done
-    for name in '\x03\x20\x02\x00 is none' '\x00\x20\x02\x01 is none' '\x02\x00\x01\x01 is none' '\x01\x40\x00\x00 was refused with 1' '\x00\x1f\xff\x00 was refused with 1'; do
-        printf '\x02\x01\x06\x00%b' "${name%% *}" >"$bad"
-        two_refuses "$bad: record 2 ${name#* }" "$two" "$chr" "$bad" "$log"
-        two_refuses "$bad: record 2 ${name#* }" "$two" "$chr" "$log" "$bad"
-    done
-    printf '\x02\x01\x06\x00\x01\x20\x01\x1e\x02\x00\x09\x00\x01\x20\x07\x00' >"$bad" # port 7 on line 9, drawing
-    two_refuses "$bad: record 4 was refused with 4" "$two" "$chr" "$log" "$bad"
-    : >"$bad"
-    two_refuses "$bad: it draws no whole picture" "$two" "$chr" "$log" "$bad"
-    printf '\x02\x00\xef\x00' >"$bad" # lines 0 to 238
-    two_refuses "$bad: it draws no whole picture" "$two" "$chr" "$bad" "$log"
-    altered two 's/ppu_shared_run(which,/ppu_shared_run(2,/'
-    two_refuses "$log: record 1 was refused with 7" "$out/altered" "$chr" "$log" "$log"
-    altered two 's/PPU_RUN_ALL, MEMORY/3, MEMORY/'
-    two_refuses "$log: record 1 was refused with 5" "$out/altered" "$chr" "$log" "$log"
-    altered two 's/, LENT(colours)/, colours, 256/'
-    two_refuses "$log: record 1 was refused with 2" "$out/altered" "$chr" "$log" "$log"
+    two_refuses_logs
     if "$two" "$chr" "$log" "$log" >/dev/full; then fail "two on a full device ends with 0"; fi
     say "examples/two.c ends with 1 and one line, without a picture, on $refused command lines: writable boards, other cartridges, cut and refused logs"
 }
 
+# Altered copies, in which a call is the other unit's or is lent its memory, draw something else.
+two_altered() {
+    local lent="PPU_RUN_ALL, LENT(left), LENT(right)"
+    two_seen 's/ppu_shared_run(which,/ppu_shared_run(!which,/'
+    two_seen 's/ppu_shared_write(which,/ppu_shared_write(!which,/'
+    two_seen 's/ppu_shared_read(which,/ppu_shared_read(!which,/'
+    two_seen "s/PPU_RUN_ALL, MEMORY/$lent, NAMETABLES(1), NAMETABLES(0), BOTH(oam), BOTH(palette)/"
+    two_seen "s/PPU_RUN_ALL, MEMORY/$lent, NAMETABLES(0), NAMETABLES(1), LENT(oam[1]), LENT(oam[0]), BOTH(palette)/"
+    two_seen "s/PPU_RUN_ALL, MEMORY/$lent, NAMETABLES(0), NAMETABLES(1), BOTH(oam), LENT(palette[1]), LENT(palette[0])/"
+    two_seen 's/LENT(left), LENT(right)/LENT(right), LENT(left)/'
+    two_seen 's/logs\[which\].drawn\[y\]/logs[!which].drawn[y]/'
+    two_seen 's/logs\[row % 2\]/logs[0]/'
+}
+
 # Two logs on one cartridge: each half is what that log draws alone, as worked out, as ppu-picture draws it by the plain calls, and for captures of one
 # cartridge as the emulator drew it. The logs out of step; exchanged; one log twice; another cartridge, by which the logs' own tiles are seen
-# to be stored nowhere. Altered copies, in which a call is the other unit's or is lent its memory, draw something else.
+# to be stored nowhere.
 test_two() {
     [ "$(wc -l <examples/two.c)" -lt 120 ] || fail "examples/two.c is no longer short"
-    local compiler name lent="PPU_RUN_ALL, LENT(left), LENT(right)" first=examples/picture.log second=examples/second.log both=$out/both-${compilers[0]}.ppm
+    local compiler name first=examples/picture.log second=examples/second.log both=$out/both-${compilers[0]}.ppm
     mkdir "$out/made" "$out/captured" "$out/raw-captured"
     cp examples/picture.py examples/records.py "$out/made"
     python3 "$out/made/picture.py"
@@ -273,15 +292,7 @@ test_two() {
         done
         pictures two-alone "$both" "$out/picture.png" "$out/second.png" || fail "the halves are not what ppu-picture draws of each log alone"
     fi
-    two_seen 's/ppu_shared_run(which,/ppu_shared_run(!which,/'
-    two_seen 's/ppu_shared_write(which,/ppu_shared_write(!which,/'
-    two_seen 's/ppu_shared_read(which,/ppu_shared_read(!which,/'
-    two_seen "s/PPU_RUN_ALL, MEMORY/$lent, NAMETABLES(1), NAMETABLES(0), BOTH(oam), BOTH(palette)/"
-    two_seen "s/PPU_RUN_ALL, MEMORY/$lent, NAMETABLES(0), NAMETABLES(1), LENT(oam[1]), LENT(oam[0]), BOTH(palette)/"
-    two_seen "s/PPU_RUN_ALL, MEMORY/$lent, NAMETABLES(0), NAMETABLES(1), BOTH(oam), LENT(palette[1]), LENT(palette[0])/"
-    two_seen 's/LENT(left), LENT(right)/LENT(right), LENT(left)/'
-    two_seen 's/logs\[which\].drawn\[y\]/logs[!which].drawn[y]/'
-    two_seen 's/logs\[row % 2\]/logs[0]/'
+    two_altered
     say "examples/two.c by ${compilers[*]} draws two logs on one cartridge, each half what that log draws alone: the examples, exchanged, out of step, captures of an emulator"
     test_two_refusals
 }

@@ -1,5 +1,5 @@
 // The calls by the unit of a record, which the exports for C and their play share. Inner functions: what they take is checked as in the calls on a unit.
-// fresh_record, read_record, write_record; run, within line_record and run_record; play_entry.
+// fresh_record, read_record, write_record; run, and within it line_record and run_record; play_entry.
 ghost use mathlib.Core.Path.{_≡_};
 ghost use Prim.Native.Nat.{_≤_};
 ghost use Rattle.model.specs.Unit.{accessMemory, lineMemory};

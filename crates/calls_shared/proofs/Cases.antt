@@ -7,7 +7,7 @@ use borrow.Author.Tests.{le-ltb}
 use Rattle.model.specs.declared.Ppu.{Ppu}
 use Rattle.model.specs.declared.Answer.{Answer}
 use Rattle.model.specs.declared.Access.{Access}
-use Rattle.model.specs.Unit.{Memory, state, accessCells}
+use Rattle.model.specs.Unit.{state, lineMemory}
 use Rattle.model.specs.Calls.{refusal, refusedAccess, Call, Outcome, outcomeOn}
 use Rattle.model_shared.specs.Shared.{unitCall, owned, machine, turn, leftBy, sharedCall}
 use Rattle.calls_shared.specs.declared.Shared.{Shared}
@@ -19,21 +19,16 @@ neither-1 a u x e f = f ∙ ap (λ (y : Access). y .answer) e
 pub neither-2 : (a : Access) (u x : Ppu) → a ≡ refusedAccess 7 u → x ≡ a .unit → x ≡ u
 neither-2 a u x e f = f ∙ ap (λ (y : Access). y .unit) e
 
-pub ruleset neither-cases = (neither-1, neither-2)
-
 -- BY NUMBER, whatever the call is lent
-abbrev lent : List ℕ → List ℕ → List ℕ → List ℕ → List ℕ → List ℕ → List ℕ → Memory
-lent l r n o p b f = record { cells = accessCells l r n o p; line = b; colours = f }
-
 module _ (c : Call) (k : ℕ) (u v : Ppu) (l r n n′ o o′ p p′ b f : List ℕ) (z : Shared) where
-  pub by-0 : (a : Access) (l₁ r₁ n₁ o₁ p₁ b₁ f₁ : List ℕ) → k ≡ 0 → outcomeOn a (lent l₁ r₁ n₁ o₁ p₁ b₁ f₁) ≡ unitCall c (state u (lent l r n o p b f))
+  pub by-0 : (a : Access) (l₁ r₁ n₁ o₁ p₁ b₁ f₁ : List ℕ) → k ≡ 0 → outcomeOn a (lineMemory l₁ r₁ n₁ o₁ p₁ b₁ f₁) ≡ unitCall c (state u (lineMemory l r n o p b f))
       → z .answer ≡ a .answer → z .first ≡ a .unit → z .second ≡ v
       → turn (z .answer) (machine (owned (z .first) n₁ o₁ p₁) (owned (z .second) n′ o′ p′) l₁ r₁ b₁ f₁) ≡ sharedCall k c (machine (owned u n o p) (owned v n′ o′ p′) l r b f)
   unfolding sharedCall
   by-0 a l₁ r₁ n₁ o₁ p₁ b₁ f₁ h e x y q =
       rw (h, x, y, q) (ap (λ (t : Outcome). turn (t .answer) (leftBy 0 (t .after .unit) (t .after .memory) (machine (owned u n o p) (owned v n′ o′ p′) l r b f))) e)
 
-  pub by-1 : (a : Access) (l₁ r₁ n₁ o₁ p₁ b₁ f₁ : List ℕ) → k ≡ 1 → outcomeOn a (lent l₁ r₁ n₁ o₁ p₁ b₁ f₁) ≡ unitCall c (state v (lent l r n′ o′ p′ b f))
+  pub by-1 : (a : Access) (l₁ r₁ n₁ o₁ p₁ b₁ f₁ : List ℕ) → k ≡ 1 → outcomeOn a (lineMemory l₁ r₁ n₁ o₁ p₁ b₁ f₁) ≡ unitCall c (state v (lineMemory l r n′ o′ p′ b f))
       → z .answer ≡ a .answer → z .first ≡ u → z .second ≡ a .unit
       → turn (z .answer) (machine (owned (z .first) n o p) (owned (z .second) n₁ o₁ p₁) l₁ r₁ b₁ f₁) ≡ sharedCall k c (machine (owned u n o p) (owned v n′ o′ p′) l r b f)
   unfolding sharedCall

@@ -10,7 +10,7 @@ use borrow.Author.Tests.{eqb-true, eqb-false, eq-eqb, ltb-true, lt-ltb}
 use Rattle.model.specs.Unit.{Cells, Memory, accessCells, withLines}
 use Rattle.model.specs.Calls.{Lent, own, other, Call, lentOf, lentMemory, ownMemory}
 use Rattle.model_shared.specs.Shared.{Own, owned, Machine, machine, ownOf, memoryOf, leftBy, Left, left, Units, turn, byNumber}
-use Rattle.model_shared.specs.Sequence.{Entry, entry, isRun, leftOf, ownAfter, Shown, shownOf, machineAfter, afterAll, shownTo, onlyBy, callsOf, allBy}
+use Rattle.model_shared.specs.Sequence.{Entry, isRun, leftOf, ownAfter, Shown, shownOf, machineAfter, afterAll, shownTo, onlyBy, callsOf, allBy}
 use Rattle.model_shared.specs.Theorems.{SharedTurns, Unseen}
 use Rattle.model_shared.proofs.Seen.{blank, Stays, stays, Blind}
 
@@ -254,9 +254,31 @@ module _ {A U : Type 0} (p : Units A U) (blind : Blind p) where
   own-left : (c : Call) (l : Lent) (u : U) (m : Memory) → l ≡ own → (leftAs c l u m ≡ p .leaves c u m) × (ownAs c l u m ≡ p .leaves c u m .memory)
   own-left c l u m e = (λ i. leftAs c (e i) u m, λ i. ownAs c (e i) u m)
 
+  line-by : (k : ℕ) (u : U) (a : Memory) (m : Machine U) → (leftBy k u a m .line ≡ a .line) × (leftBy k u a m .colours ≡ a .colours)
+  line-by zero u a m = (refl, refl)
+  line-by (suc k) u a m = (refl, refl)
+
+  -- what a unit is shown of a call on its own memory
+  shown-own : (c : Call) (u : U) (a : Memory) → lentOf c ≡ own → shownOf p c u a ≡ shownLeft c (p .leaves c u a .memory .cells) (p .leaves c u a)
+  unfolding shownOf
+  shown-own c u a h = λ i. shownLeft c (ownAs c (h i) u a .cells) (leftAs c (h i) u a)
+
+  shown-is : (e : Entry) (m : Machine U) → e .who < 2 → lentOf (e .what) ≡ own
+      → let t = byNumber p (e .who) (e .what) m in let s = shownOf p (e .what) (ownOf (e .who) m .unit) (memoryOf (e .who) m) in
+      (s .answer ≡ t .answer) × (s .unit ≡ ownOf (e .who) (t .after) .unit) × (s .cells ≡ memoryOf (e .who) (t .after) .cells)
+      × (isRun (e .what) ≡ true → p .number (t .answer) ≡ 0 → (s .line ≡ t .after .line) × (s .colours ≡ t .after .colours))
+  shown-is e m lt h =
+      let k : ℕ = e .who in
+      let c : Call = e .what in
+      let x = p .leaves c (ownOf k m .unit) (memoryOf k m) in
+      let o = own-by k (x .unit) (x .memory) m in
+      let l = line-by k (x .unit) (x .memory) m in
+      rw (shown-own c (ownOf k m .unit) (memoryOf k m) h, lt-ltb k 2 lt)
+      (refl, sym (o .0), sym (ap (λ (a : Memory). a .cells) (o .1)), λ r n. rw (r, n) (sym (l .0), sym (l .1)))
+
   pub turns : SharedTurns p
   unfolding machineAfter
-  turns = record { one = one; others-own = others-own }
+  turns = record { one = one; shown = shown-is; others-own = others-own }
     where
       one : (e : Entry) (m : Machine U) → lentOf (e .what) ≡ own → byNumber p (e .who) (e .what) m .after ≡ machineAfter p e m
       one e m h =

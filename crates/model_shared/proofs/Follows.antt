@@ -1,6 +1,6 @@
 -- Two systems of which the one follows the other: logs that are quiet for the one are quiet for the other, run as many lines, and end alike.
 use mathlib.Core.Path.{_≡_, refl, sym, ap, _∙_, subst}
-use mathlib.Core.Bool.{Bool, true}
+use mathlib.Core.Bool.{Bool}
 use mathlib.Core.List.{List, [], _∷_}
 use Prim.Native.Nat.{ℕ, _+_, _≤_}
 use Rattle.model.specs.declared.Ppu.{Ppu}

@@ -1,5 +1,5 @@
 -- One unit's call and the plain call: the same but for 6, and for the line buffers of a run with none of lines 0 to 239.
-use mathlib.Core.Path.{_≡_, refl, sym, ap, _∙_, subst}
+use mathlib.Core.Path.{_≡_, refl, sym, ap, _∙_}
 use mathlib.Core.Bool.{Bool, true, false, true≢false, cond, not, _&&_}
 use mathlib.Core.List.{List}
 use Prim.Native.Nat.{ℕ, zero, suc}
@@ -11,7 +11,7 @@ use Rattle.model.specs.declared.Ppu.{Ppu}
 use Rattle.model.specs.Unit.{Memory, withLines, State, state, lineLength, coloursLength, isWellFormed, isDrawing}
 use Rattle.model.specs.Line.{linesRun, lineCount, reasonMet}
 use Rattle.model.specs.Calls.{Lent, Call, readCall, writeCall, dmaCall, runCall, searchCall, ranAnswer, Outcome, outcome, refusal, requestOk, longFor, inRange, blocked, accessLong, order, refusalOf, gate, runDone, done, onLent}
-use Rattle.model.proofs.Accepted.{is-done, is-refused, order-sized}
+use Rattle.model.proofs.Accepted.{is-done, order-sized}
 use Rattle.model.proofs.Tests.{and-both}
 use Rattle.model_shared.specs.Shared.{unitOrder, unitRefusal, picturesAny, zeroed, unitDone, unitCall}
 use Rattle.model_shared.specs.Sequence.{isRun}

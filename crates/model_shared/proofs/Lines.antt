@@ -4,8 +4,7 @@ use mathlib.Core.Bool.{Bool, true, false, cond, _||_}
 use mathlib.Core.List.{List}
 use Prim.Native.Nat.{ℕ, zero, suc}
 use lib.Dec.{ltb}
-use Rattle.model.specs.declared.Ppu.{Ppu}
-use Rattle.model.specs.Unit.{Memory, withLines, State, state}
+use Rattle.model.specs.Unit.{withLines, State, state}
 use Rattle.model.specs.Line.{anyOf, drawnLine, blankUnit, oneLine, linesRun, meetsReason, lineCount, reasonMet}
 use Rattle.model_shared.specs.Shared.{picturesLine, picturesAny}
 

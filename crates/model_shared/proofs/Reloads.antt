@@ -1,6 +1,6 @@
 -- Demand 3 for each unit by itself, the other's calls taken out.
 use mathlib.Core.Path.{_≡_, refl, sym, ap, _∙_, subst}
-use mathlib.Core.Bool.{Bool, true, false, cond, _&&_}
+use mathlib.Core.Bool.{Bool, true, false, cond}
 use mathlib.Core.List.{List, [], _∷_, _++_}
 use Prim.Native.Nat.{ℕ, zero, suc, _<_}
 use native.Mathlib.Omega.{arith}
@@ -12,24 +12,24 @@ use Rattle.model.specs.declared.Ppu.{Ppu}
 use Rattle.model.specs.declared.Answer.{Answer}
 use Rattle.model.specs.declared.Access.{Access}
 use Rattle.model.specs.Unit.{Memory, withLines, State, state, lineLength, coloursLength, recordLength, long, isWellFormed}
-use Rattle.model.specs.Record.{at, unitOf, recordOf}
+use Rattle.model.specs.Record.{unitOf, recordOf}
 use Rattle.model.specs.Line.{linesRun, lineCount}
-use Rattle.model.specs.Calls.{Lent, own, other, Call, readCall, writeCall, dmaCall, runCall, searchCall, access, Outcome, outcome, outcomeOn, refusal, refusedAccess, loadCall, requestOk, refusalOf, done, onLent, lentOf, lentMemory, ownMemory, call, packed, savedBytes, Exported, exported, exportOf, onRecord, exportedCall}
-use Rattle.model.specs.Reload.{end, endOf, totalOf, plain, dataCall, Places, Bytes, reload, without, PairOf, Pair, Held, Needed}
+use Rattle.model.specs.Calls.{Lent, own, other, Call, readCall, writeCall, dmaCall, runCall, searchCall, access, Outcome, outcome, outcomeOn, refusal, refusedAccess, loadCall, requestOk, refusalOf, done, onLent, lentOf, lentMemory, ownMemory, call, savedBytes, exported, exportOf, onRecord, exportedCall}
+use Rattle.model.specs.Reload.{end, endOf, plain, dataCall, Places, Bytes, reload, without, PairOf, Pair, Held, Needed}
 use Rattle.model.specs.RecordLog.{RecordState, recordState, recordCall, recordSystem, RecordPairOf, RecordPair, RecordNeeded}
 use Rattle.model.proofs.Tests.{cond-both}
 use Rattle.model.proofs.Accepted.{is-done, is-made}
 use Rattle.model.proofs.Record.{unit-record-unit}
-use Rattle.model.proofs.Good.{lent-board, call-board, lent-long}
+use Rattle.model.proofs.Good.{lent-board, lent-long}
 use Rattle.model.proofs.Records.{refused-bytes}
 use Rattle.model.proofs.Reloaded.{own-same as own-back}
 use Rattle.model.proofs.Theorems.{theorems}
 use Rattle.model_shared.specs.Shared.{owned, Machine, machine, ownOf, memoryOf, unitRefusal, picturesAny, zeroed, unitDone, unitCall, unitOnRecord, unitExport, Units, byValue, byRecord}
-use Rattle.model_shared.specs.Sequence.{Entry, isRun, leftOf, ownAfter, Shown, shownOf, afterAll, shownTo, callsOf, allBy, stateOf, unitGiven, alone, recordStateOf, unitRecordCall, aloneRecord, SharedNeeded, SharedRecordNeeded}
+use Rattle.model_shared.specs.Sequence.{Entry, leftOf, ownAfter, Shown, shownOf, afterAll, shownTo, callsOf, allBy, stateOf, unitGiven, alone, recordStateOf, unitRecordCall, aloneRecord, SharedNeeded, SharedRecordNeeded}
 use Rattle.model_shared.specs.Theorems.{SharedReload}
 use Rattle.model_shared.proofs.Lines.{lines-relined}
 use Rattle.model_shared.proofs.Laws.{writable-refusal, plain-refusal, unit-refused, unit-done, unit-is, unit-plain, run-sized}
-use Rattle.model_shared.proofs.Seen.{blank, Blind, value-blind, record-blind, unit-number, on-record-sees, unit-export-refused, writable-number}
+use Rattle.model_shared.proofs.Seen.{blank, Blind, value-blind, record-blind, on-record-sees, unit-export-refused, writable-number}
 use Rattle.model_shared.proofs.Alone.{calls-all, shown-same, own-same, unit-same, unitEnd, memoryEnd, Near, ends, near-own, common, whatever}
 use Rattle.model_shared.proofs.Follows.{Following, follow-ends, follow-totals, follow-quiet}
 
@@ -162,7 +162,7 @@ not-none c s = go (requestOk c) (isWellFormed (s .unit))
     go true false z = omega (arith, z)
     go false w z = omega (arith, z)
 
-writable-stays : (c : Call) (s : State) → s .unit .board .writable ≡ true → unitCall c s ≡ outcome (refusal (unitRefusal c s)) s
+pub writable-stays : (c : Call) (s : State) → s .unit .board .writable ≡ true → unitCall c s ≡ outcome (refusal (unitRefusal c s)) s
 writable-stays c s w = unit-refused c s (unitRefusal c s) refl (λ (z : unitRefusal c s ≡ 0). not-none c s (sym (writable-refusal c s w) ∙ z))
 
 stuck : (cs : List Call) (s : State) → s .unit .board .writable ≡ true → endOf alone cs s ≡ s

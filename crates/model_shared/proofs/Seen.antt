@@ -1,14 +1,13 @@
 -- What one unit's call sees of the line buffers it is lent: their lengths alone. And what it leaves: the tables, and those lengths.
 use mathlib.Core.Path.{_≡_, refl, sym, ap, _∙_, subst}
 use mathlib.Core.Bool.{Bool, true, false, true≢false, cond, _&&_}
-use mathlib.Core.List.{List, []}
-use Prim.Native.Nat.{ℕ, zero, suc, _+_, _*_, _%_, _<_}
+use mathlib.Core.List.{List}
+use Prim.Native.Nat.{ℕ, zero, suc, _%_, _<_}
 use native.Mathlib.Omega.{arith}
 use lib.Dec.{eqb}
 use lib.ListN.{length, replicate, length-replicate}
 use borrow.Author.Tests.{eqb-true, eqb-false, ne-eqb}
 use Rattle.model.specs.declared.Ppu.{Ppu}
-use Rattle.model.specs.declared.Answer.{Answer}
 use Rattle.model.specs.declared.Access.{Access}
 use Rattle.model.specs.declared.Place.{Place}
 use Rattle.model.specs.declared.Place.the-variants.{Pattern, Nametable, Palette}
@@ -17,14 +16,14 @@ use Rattle.model.specs.Address.{stored, placeOf, withOam}
 use Rattle.model.specs.Record.{recordOk, unitOf}
 use Rattle.model.specs.Ports.{portOf, wroteMemory, wroteVideo, wroteOamBytes}
 use Rattle.model.specs.Line.{lineCount}
-use Rattle.model.specs.Calls.{Lent, Call, readCall, writeCall, dmaCall, runCall, searchCall, access, made, unmade, Outcome, outcome, outcomeOn, refusal, refusedAccess, loadCall, requestOk, longFor, inRange, blocked, refusalOf, readDone, writeDone, dmaDone, runDone, searchDone, done, onLent, packed, savedBytes, Exported, exported, exportOf}
+use Rattle.model.specs.Calls.{Call, readCall, writeCall, dmaCall, runCall, searchCall, access, made, unmade, Outcome, outcome, outcomeOn, refusal, refusedAccess, loadCall, requestOk, longFor, inRange, blocked, refusalOf, readDone, writeDone, dmaDone, runDone, searchDone, done, packed, savedBytes, Exported, exported, exportOf}
 use Rattle.model.proofs.Tests.{cond-both}
 use Rattle.model.proofs.Kept.{done-num}
 use Rattle.model.proofs.Good.{lent-long, lines-cells}
 use Rattle.model.proofs.Accepted.{is-made, is-unmade}
 use Rattle.model.proofs.Records.{refused-bytes}
 use Rattle.model.proofs.Theorems.{theorems}
-use Rattle.model_shared.specs.Shared.{unitOrder, unitRefusal, picturesAny, unitDone, unitCall, unitOnRecord, unitExport, zeroed, Left, left, Units, byValue, byRecord}
+use Rattle.model_shared.specs.Shared.{unitOrder, unitRefusal, picturesAny, unitDone, unitCall, unitOnRecord, unitExport, zeroed, left, Units, byValue, byRecord}
 use Rattle.model_shared.specs.Sequence.{isRun}
 use Rattle.model_shared.proofs.Laws.{plain-refusal, unit-refused, unit-done, unit-plain, done-zeroed, run-sized, run-cleared, refusal-relined}
 
@@ -248,12 +247,16 @@ number-small c l m =
     (cond-both P (eqb (x .answer .number) 0) (unitCall c (state (x .unit) m)) (outcomeOn x m)
     (subst (λ (n : ℕ). n < 256) (sym (unit-number c (state (x .unit) m))) (order-small _ _ _ _ _ _)) (load-small l)) (omega arith)
 
+pub export-number : (c : Call) (l : List ℕ) (m : Memory) → unitExport c l m .result % 256 ≡ unitOnRecord c l m .answer .number
+unfolding unitExport
+export-number c l m = theorems .packed-parts (unitOnRecord c l m .answer) .number-at (number-small c l m)
+
 record-sees : (c : Call) (l : List ℕ) (m : Memory)
     → byRecord .leaves c l m ≡ (let z = byRecord .leaves c l (blank m) in left (z .answer) (z .unit) (relines (isRun c && eqb (byRecord .number (z .answer)) 0) m (z .memory)))
 unfolding unitExport
 record-sees c l m =
     let o : Outcome = unitOnRecord c l (blank m) in
-    let same : packed (o .answer) % 256 ≡ o .answer .number = theorems .packed-parts (o .answer) .number-at (number-small c l (blank m)) in
+    let same : packed (o .answer) % 256 ≡ o .answer .number = export-number c l (blank m) in
     (λ i. let z : Exported = exportOf l (on-record-sees c l m i) in left (z .result) (z .bytes) (z .memory))
     ∙ (λ i. left (packed (o .answer)) (savedBytes (access (o .answer) (o .after .unit)) l) (relines (isRun c && eqb (sym same i) 0) m (o .after .memory)))
 

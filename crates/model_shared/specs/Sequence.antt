@@ -28,7 +28,7 @@ isRun (dmaCall l p) = false
 isRun (runCall l why n) = true
 isRun (searchCall l n) = false
 
--- what a unit's call leaves, lent the unit's own memory m or some other; and of m
+-- what a unit's call leaves, lent its own memory m or some other; and what is then its own memory
 abbrev pub leftOf : {A U : Type 0} → Units A U → Call → U → Memory → Left A U
 leftOf p c u m = p .leaves c u (lentMemory (lentOf c) m)
 
@@ -102,7 +102,7 @@ unitRecordCall c s = recordCallBy unitExport c s
 abbrev pub aloneRecord : System RecordState
 aloneRecord = recordSystemBy unitRecordCall unitOnRecord
 
--- step i of the reload cannot be spared for unit k of a machine, with board d
+-- step i of the reload cannot be spared for unit k of a machine, with board d. Of the other unit nothing is asked, since nothing of it is looked at
 pub record SharedNeeded (d : Board) (k i : ℕ) : Type 0 where
   pub start : Machine Ppu
   pub board : ownOf k start .unit .board ≡ d

@@ -7,7 +7,7 @@ use lib.ListN.{replicate}
 use Rattle.model.specs.declared.Ppu.{Ppu}
 use Rattle.model.specs.declared.Answer.{Answer}
 use Rattle.model.specs.declared.Access.{Access}
-use Rattle.model.specs.Unit.{Memory, accessCells, withLines, State, state, lineLength, coloursLength, isWellFormed, isDrawing}
+use Rattle.model.specs.Unit.{Memory, lineMemory, withLines, State, state, lineLength, coloursLength, isWellFormed, isDrawing}
 use Rattle.model.specs.Line.{anyOf, linesRun, lineCount}
 use Rattle.model.specs.Calls.{Call, readCall, writeCall, dmaCall, runCall, searchCall, Outcome, outcome, outcomeOn, refusal, refusedAccess, loadCall, requestOk, longFor, inRange, blocked, done, gate, packed, Exported, exportOf}
 
@@ -40,7 +40,7 @@ ownOf (suc k) m = m .second
 
 -- what a call by unit k is lent: its own memory, and what is in common
 abbrev pub memoryOf : {U : Type 0} → ℕ → Machine U → Memory
-memoryOf k m = record { cells = accessCells (m .left) (m .right) (ownOf k m .nametables) (ownOf k m .oam) (ownOf k m .palette); line = m .line; colours = m .colours }
+memoryOf k m = lineMemory (m .left) (m .right) (ownOf k m .nametables) (ownOf k m .oam) (ownOf k m .palette) (m .line) (m .colours)
 
 -- and the machine after it: the other's own stays
 abbrev pub leftBy : {U : Type 0} → ℕ → U → Memory → Machine U → Machine U

@@ -8,7 +8,7 @@ use lib.Dec.{eqb, ltb}
 use borrow.Author.Tests.{eqb-true, eqb-false, lt-ltb, le-ltb, ltb-true}
 use Rattle.model.specs.declared.Ppu.{Ppu}
 use Rattle.model.specs.declared.Access.{Access}
-use Rattle.model.specs.Unit.{Memory, accessCells, state, recordLength, long}
+use Rattle.model.specs.Unit.{Memory, lineMemory, long, recordLength, state}
 use Rattle.model.specs.Record.{at, boardAt, unitOf}
 use Rattle.model.specs.Calls.{refusedAccess, loadCall, Exported, exported, exportOf, onRecord, exportedCall, own, Call, runCall, outcomeOn, onLent}
 use Rattle.model.proofs.Accepted.{is-made}
@@ -44,16 +44,13 @@ run-shown why n l m e = ap (exportOf l) (go (ltb why 3) (eqb (loadCall l .answer
     go false b q = refl
 
 -- BY NUMBER
-abbrev whole : List ℕ → List ℕ → List ℕ → List ℕ → List ℕ → List ℕ → List ℕ → Memory
-whole l r n o p b f = record { cells = accessCells l r n o p; line = b; colours = f }
-
 module _ (c : Call) (k : ℕ) (u v : List ℕ) (l r n n′ o o′ p p′ b f : List ℕ) (z : ℕ) where
-  pub number-0 : (u₁ l₁ r₁ n₁ o₁ p₁ b₁ f₁ : List ℕ) → k ≡ 0 → exported z u₁ (whole l₁ r₁ n₁ o₁ p₁ b₁ f₁) ≡ unitExport c u (whole l r n o p b f)
+  pub number-0 : (u₁ l₁ r₁ n₁ o₁ p₁ b₁ f₁ : List ℕ) → k ≡ 0 → exported z u₁ (lineMemory l₁ r₁ n₁ o₁ p₁ b₁ f₁) ≡ unitExport c u (lineMemory l r n o p b f)
       → turn z (machine (owned u₁ n₁ o₁ p₁) (owned v n′ o′ p′) l₁ r₁ b₁ f₁) ≡ sharedExport k c (machine (owned u n o p) (owned v n′ o′ p′) l r b f)
   unfolding sharedExport
   number-0 u₁ l₁ r₁ n₁ o₁ p₁ b₁ f₁ h e = rw h (ap (λ (y : Exported). turn (y .result) (leftBy 0 (y .bytes) (y .memory) (machine (owned u n o p) (owned v n′ o′ p′) l r b f))) e)
 
-  pub number-1 : (u₁ l₁ r₁ n₁ o₁ p₁ b₁ f₁ : List ℕ) → k ≡ 1 → exported z u₁ (whole l₁ r₁ n₁ o₁ p₁ b₁ f₁) ≡ unitExport c v (whole l r n′ o′ p′ b f)
+  pub number-1 : (u₁ l₁ r₁ n₁ o₁ p₁ b₁ f₁ : List ℕ) → k ≡ 1 → exported z u₁ (lineMemory l₁ r₁ n₁ o₁ p₁ b₁ f₁) ≡ unitExport c v (lineMemory l r n′ o′ p′ b f)
       → turn z (machine (owned u n o p) (owned u₁ n₁ o₁ p₁) l₁ r₁ b₁ f₁) ≡ sharedExport k c (machine (owned u n o p) (owned v n′ o′ p′) l r b f)
   unfolding sharedExport
   number-1 u₁ l₁ r₁ n₁ o₁ p₁ b₁ f₁ h e = rw h (ap (λ (y : Exported). turn (y .result) (leftBy 1 (y .bytes) (y .memory) (machine (owned u n o p) (owned v n′ o′ p′) l r b f))) e)
@@ -67,13 +64,13 @@ pub ruleset number-cases = (number-0, number-1, number-7)
 -- a run that begins with one of lines 0 to 239
 module _ (why most k : ℕ) (u v : List ℕ) (l r n n′ o o′ p p′ b f : List ℕ) (z : ℕ) (s : Bool) where
   pub shown-0 : (u₁ b₁ f₁ : List ℕ) → k ≡ 0 → s ≡ recordBeginsShown u most → s ≡ true
-      → exported z u₁ (whole l r n o p b₁ f₁) ≡ exportedCall (runCall own why most) u (whole l r n o p b f)
+      → exported z u₁ (lineMemory l r n o p b₁ f₁) ≡ exportedCall (runCall own why most) u (lineMemory l r n o p b f)
       → turn z (machine (owned u₁ n o p) (owned v n′ o′ p′) l r b₁ f₁) ≡ sharedExport k (runCall own why most) (machine (owned u n o p) (owned v n′ o′ p′) l r b f)
-  shown-0 u₁ b₁ f₁ h e t x = number-0 (runCall own why most) k u v l r n n′ o o′ p p′ b f z u₁ l r n o p b₁ f₁ h (x ∙ run-shown why most u (whole l r n o p b f) (sym e ∙ t))
+  shown-0 u₁ b₁ f₁ h e t x = number-0 (runCall own why most) k u v l r n n′ o o′ p p′ b f z u₁ l r n o p b₁ f₁ h (x ∙ run-shown why most u (lineMemory l r n o p b f) (sym e ∙ t))
 
   pub shown-1 : (v₁ b₁ f₁ : List ℕ) → k ≡ 1 → s ≡ recordBeginsShown v most → s ≡ true
-      → exported z v₁ (whole l r n′ o′ p′ b₁ f₁) ≡ exportedCall (runCall own why most) v (whole l r n′ o′ p′ b f)
+      → exported z v₁ (lineMemory l r n′ o′ p′ b₁ f₁) ≡ exportedCall (runCall own why most) v (lineMemory l r n′ o′ p′ b f)
       → turn z (machine (owned u n o p) (owned v₁ n′ o′ p′) l r b₁ f₁) ≡ sharedExport k (runCall own why most) (machine (owned u n o p) (owned v n′ o′ p′) l r b f)
-  shown-1 v₁ b₁ f₁ h e t x = number-1 (runCall own why most) k u v l r n n′ o o′ p p′ b f z v₁ l r n′ o′ p′ b₁ f₁ h (x ∙ run-shown why most v (whole l r n′ o′ p′ b f) (sym e ∙ t))
+  shown-1 v₁ b₁ f₁ h e t x = number-1 (runCall own why most) k u v l r n n′ o o′ p p′ b f z v₁ l r n′ o′ p′ b₁ f₁ h (x ∙ run-shown why most v (lineMemory l r n′ o′ p′ b f) (sym e ∙ t))
 
 pub ruleset run-number-cases = (shown-0, shown-1, number-0, number-1, number-7)
