@@ -3,6 +3,8 @@
 // low, low16, low8, low_byte: the low bits of a number. At a literal n the contract computes: low(x, 5) is x % 32.
 // bit, field: one bit of a byte, and n bits of it from bit k.
 // A shift needs no function here: x >> 3 reads as x / 8 by itself.
+#![tactic(auto)]
+
 ghost use Rattle.std.specs.Prelude.{◌≡◌, ◌/◌, ◌%◌, ◌^◌, ◌<◌, eqb};
 
 pub fn wide(b: u8) -> usize

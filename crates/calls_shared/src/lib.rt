@@ -2,6 +2,7 @@
 // `requires`: a call refuses what it cannot take, in the order 7, 5, 3, 6, 2, 1, 4, and a refused call leaves both units and every lent memory as they
 // were. Unit and memory of the unit that does not call are not looked at.
 // Within, what they hand back: first, second, neither.
+#![tactic(auto)]
 ghost use Rattle.std.specs.Prelude.{◌≡◌};
 ghost use Rattle.model.specs.Calls.{refusal, read_call, write_call, dma_call, run_call, own};
 ghost use Rattle.model_shared.specs.Shared.{
@@ -15,7 +16,7 @@ ghost use Rattle.model_shared.specs.Shared.{
 use model::{Access, Answer, Ppu};
 
 // What a call by number hands back: its answer, and both units.
-#[derive(Drop)]
+#[derive(Clone, Copy)]
 pub struct Shared {
     pub answer: Answer,
     pub first: Ppu,

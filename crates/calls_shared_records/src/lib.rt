@@ -1,6 +1,7 @@
 // One of two units' calls by the unit of a record, which the exports by number share for both. Inner functions.
 // read_record, write_record, dma_record, run_record. The slices are borrowed anew first of all: so they need not go through memory where the branch of a
 // number calls.
+#![tactic(auto)]
 ghost use Rattle.std.specs.Prelude.{◌≡◌};
 ghost use Rattle.model.specs.Unit.{access_memory, dma_memory, line_memory};
 ghost use Rattle.model.specs.Colours.{numbers_of};

@@ -2,6 +2,7 @@
 // choose, search. Within: height; distances: distance, wide32, lowest, word, words, y_bytes, from_y, distances, near_one, count; the list: marks,
 // any8, list_eight, list_some, list_marked, list_places, at_most_eight, listed; the search: in_sixteen, eighth_from, eighth, tried_one, on_diagonal, tried_some, skip, next_byte,
 // diagonal, searched, is_over.
+#![tactic(auto)]
 ghost use Rattle.std.specs.Prelude.{◌≡◌, cond, true, [], ℕ, ◌+◌, ◌-◌, ◌*◌, ◌%◌, ◌<◌, ◌≤◌, eqb, ltb, length, get_or, take};
 ghost use Rattle.model.specs.Line.{tab, any_of};
 ghost use Rattle.model.specs.Sprites.{oam_at, height as height_of, is_in_range, covers, places_of, count_of, overflows, looked_at};
@@ -9,14 +10,14 @@ ghost use Rattle.choice.specs.Distance.{distance_of, distance_at, low_in, distan
 ghost use Rattle.choice.specs.Overflow.{on_diagonal, hits, Eight};
 
 // How many sprites the line shows, at most eight, and whether the search sets the overflow bit.
-#[derive(Drop)]
+#[derive(Clone, Copy)]
 pub struct Choice {
     pub count: usize,
     pub over: bool,
 }
 
 // What the search for overflow finds: how many sprites it looked at, and whether it set the bit.
-#[derive(Drop)]
+#[derive(Clone, Copy)]
 pub struct Found {
     pub looked: u8,
     pub over: bool,

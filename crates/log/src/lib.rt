@@ -1,6 +1,7 @@
 // The play of a log of accesses on a unit and lent memory, with what the player prints of it. Inner functions, not public calls.
 // play_one (one entry and its text), place_after, play_found, play_next (the next record of a log), play_log (a whole log), play_block (a block of a
 // longer log), whole, keep.
+#![tactic(auto)]
 ghost use Rattle.std.specs.Prelude.{◌≡◌, cond, ◌++◌, ◌+◌, ◌-◌, ◌*◌, ◌/◌, ◌≤◌, length, take, drop};
 ghost use Rattle.model.specs.Unit.{state, line_memory};
 ghost use Rattle.log.specs.Play.{IsStep, IsFound, IsNext, IsPlay, whole_bytes};
@@ -9,7 +10,7 @@ use model::{Entry, Ppu};
 use reader::Step;
 
 // A play: the unit after it, how many bytes of the output are written, and whether a refusal 5 has ended it.
-#[derive(Drop)]
+#[derive(Clone, Copy)]
 pub struct Played {
     pub unit: Ppu,
     pub written: usize,
@@ -17,14 +18,14 @@ pub struct Played {
 }
 
 // The same of a block, and how many bytes of a record that it cuts stand at its front now.
-#[derive(Drop)]
+#[derive(Clone, Copy)]
 pub struct Block {
     pub played: Played,
     pub kept: usize,
 }
 
 // A play that goes on: the same so far, and the place of the next record, the log's end where none is played any more.
-#[derive(Drop)]
+#[derive(Clone, Copy)]
 pub struct Going {
     pub played: Played,
     pub at: usize,

@@ -1,6 +1,7 @@
 // Plays a log of accesses from standard input and prints what its records come to, in constant memory, from a fresh
 // unit of board 9 and memory that is all zero. The work is done by the crate log; here are the reads and writes.
 // goes_on, read_more, play_read, turn: one block. turns_left, play_input: block after block. main: the memory.
+#![tactic(auto)]
 ghost use Rattle.std.specs.Prelude.{◌≡◌, ◌+◌, ◌<◌, ◌≤◌, length, take};
 ghost use Rattle.model.specs.Unit.{state, line_memory};
 ghost use Rattle.model.specs.Log.{start_state};
@@ -9,7 +10,7 @@ ghost use Rattle.player.specs.Turns.{goes_on, turns_after, IsBlockTurn, IsTurn, 
 use model::Ppu;
 
 // The unit after a block, how many bytes are kept of a record that the block cut, and whether to go on.
-#[derive(Drop)]
+#[derive(Clone, Copy)]
 struct Progress {
     unit: Ppu,
     kept: usize,

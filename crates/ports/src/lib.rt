@@ -1,6 +1,7 @@
 // Accepted accesses and sprite DMA: what they do to the unit and to lent memory. Inner functions, not public calls:
 // they require the lengths that a call has checked.
 // read, write, write_kept, dma; below them read_byte, read_unit, wrote, copy_page.
+#![tactic(auto)]
 ghost use Rattle.std.specs.Prelude.{◌≡◌, false, [], length};
 ghost use Rattle.model.specs.Unit.{
   state,

@@ -1,18 +1,19 @@
 // The reading of a log of accesses: records of 4 bytes. Inner functions, not public calls.
 // By a cursor: Cursor, next, whole_entry, zero_ended; by a reader, which holds the lent log: Reader, start, moved, read, read_at.
+#![tactic(auto)]
 ghost use Rattle.std.specs.Prelude.{◌≡◌, cond, ◌+◌, ◌*◌, min, eqb, length, drop};
 ghost use Rattle.model.specs.Log.{whole as whole_record, records_of, record_entry, entry_of};
 
 use model::Entry;
 
 // A place in a log.
-#[derive(Drop)]
+#[derive(Clone, Copy)]
 pub struct Cursor {
     pub at: usize,
 }
 
 // What a cursor finds, and the cursor moved on behind it.
-#[derive(Drop)]
+#[derive(Clone, Copy)]
 pub struct Step {
     pub found: Entry,
     pub next: Cursor,
@@ -71,7 +72,7 @@ pub fn next(c: Cursor, log: &[u8]) -> Step
 }
 
 // A lent log, and a place in it.
-#[derive(Drop)]
+#[derive(Clone, Copy)]
 pub struct Reader<'a> {
     pub log: &'a [u8],
     pub at: usize,

@@ -2,6 +2,7 @@
 // that a call has checked.
 // A drawn line: background_shown, zero_hits, overlay, sprites_on, sprites_shown, draw.
 // Any line: undrawn_unit, undrawn_buffers, undrawn, one_line. A run: goes_on, run.
+#![tactic(auto)]
 ghost use Rattle.std.specs.Prelude.{◌≡◌, cond, true, false, not, ◌&&◌, List, [], ℕ, ◌+◌, ◌-◌, ◌<◌, ◌≤◌, eqb, ltb, length, take};
 ghost use Rattle.model.specs.Unit.{state, line_memory, line_length, bit, is_rendering, is_well_formed};
 ghost use Rattle.model.specs.Sprites.{covers, places_of, overflows};
@@ -12,14 +13,14 @@ ghost use Rattle.scanline.specs.Shown.{LineLengths, RunLengths, IsRun, back_of, 
 use model::{Board, Ppu};
 
 // What drawing a line finds beside its pixels: sprite 0 hit, overflow.
-#[derive(Drop)]
+#[derive(Clone, Copy)]
 pub struct Flags {
     pub hit: bool,
     pub over: bool,
 }
 
 // What a run comes to: the unit after it, the lines it ran, and whether its reason to stop was met.
-#[derive(Drop)]
+#[derive(Clone, Copy)]
 pub struct Ran {
     pub unit: Ppu,
     pub lines: u16,

@@ -1,6 +1,7 @@
 // The pixels of the sprites that a line shows. Inner functions, not public calls.
 // put_sprite, sprite_row: a sprite over pixels, the winning pixel of every column. Within: line_before, listed, fill_row, draw_row.
 // merge_row, zero_meets: those pixels over a line, sprite 0's hit. Within: covering. Pixels have 264 columns, so that a sprite at X = 255 has room; a line shows the first 256.
+#![tactic(auto)]
 ghost use Rattle.std.specs.Prelude.{◌≡◌, cond, true, [], ◌++◌, ℕ, ◌+◌, ◌-◌, ◌<◌, ◌≤◌, eqb, length, get_or, take, drop};
 ghost use Rattle.model.specs.Line.{tab, merged};
 ghost use Rattle.pixels.specs.Row.{meets_of};

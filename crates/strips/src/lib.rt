@@ -1,6 +1,7 @@
 // Strips: rows of tiles in one page of nametable RAM. Inner functions, not public calls: they require lengths and bounds.
 // Four tiles share an attribute byte, so whole groups of four are drawn.
 // strip_at: what is the same for all tiles of a strip. palette_at, put_column, put_pair, put_group, run: one tile, two, four, n groups.
+#![tactic(auto)]
 ghost use Rattle.std.specs.Prelude.{◌≡◌, ◌+◌, ◌*◌, ◌%◌, ◌<◌, ◌≤◌, length};
 ghost use Rattle.model.specs.Unit.{pattern_length, nametable_length};
 ghost use Rattle.pixels.specs.Row.{store_tab};
@@ -11,7 +12,7 @@ use model::Board;
 use pixels::put_tile;
 
 // A row of tiles in one page of nametable RAM.
-#[derive(Drop)]
+#[derive(Clone, Copy)]
 pub struct Strip {
     // where its tile numbers begin, and where its attribute bytes
     pub tiles: usize,

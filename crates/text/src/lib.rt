@@ -2,6 +2,7 @@
 // character, to 30 rows of 32 bytes; and rows and table to a page. No call has a `requires`: 2 for a length, then, to a page, 8 for a character.
 // Rows: entry, look_up, space, one, put_spaces, put_rows. A page: wide, inverse, tile_of, larger, put_tiles, copy. Both: sizes, pack.
 // Public: text, page, and quarter from below; for C: ppu_text, ppu_page.
+#![tactic(auto)]
 ghost use Rattle.std.specs.Prelude.{◌≡◌, cond, ◌++◌, ◌<◌, ◌≤◌, eqb, ltb, length, get_or, drop};
 ghost use Rattle.model.specs.Line.{tab, any_of};
 ghost use Rattle.model.specs.Sprites.{count_of};

@@ -1,6 +1,8 @@
 // The unit by itself: Ppu -> Ppu, no memory. Inner functions, not public calls.
 // rendering, drawing, well_formed, nmi; v's steps: row_down, copy_side, and step after an access of port 7;
 // what a call hands back: done, ran, looked, refused.
+#![tactic(auto)]
+
 ghost use Rattle.std.specs.Prelude.{◌≡◌, ◌+◌, ◌*◌, ◌/◌, ◌%◌, ◌<◌};
 ghost use Rattle.model.specs.Unit.{is_rendering, is_drawing, is_well_formed, nmi_level};
 ghost use Rattle.model.specs.Ports.{stepped};

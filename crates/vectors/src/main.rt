@@ -4,6 +4,7 @@
 // Lines: say, say_hex.
 // One function a group of values: cells, palette_cells, scrolling, stepping, rows, status, runs, colours, searches, refusals,
 // records, tiles.
+#![tactic(auto)]
 ghost use Rattle.std.specs.Prelude.{◌<◌, ◌≤◌};
 
 use model::{Access, Ppu};

@@ -1,0 +1,4 @@
+use Rattle.bits.proofs.bit.Goals as goal
+
+pub returns : goal.returns
+returns c = cc
