@@ -1,6 +1,7 @@
 // Where an address leads, the part of a table that a tile is, and the page of a quarter. Inner functions, not public calls.
 // wiring_number, nametable_length, page, cell, palette_cell, lead; tile; quarter.
 #![tactic(auto)]
+
 ghost use Rattle.std.specs.Prelude.{◌≡◌, ◌+◌, ◌*◌, ◌%◌, ◌≤◌, ◌<◌, length};
 ghost use Rattle.model.specs.Unit.{pattern_length, nametables_for, nametable_length};
 ghost use Rattle.model.specs.Address.{wiring_number, page_at, cell_of, palette_cell, place_of, tile_in, tile_part, quarter_in, quarter_part};

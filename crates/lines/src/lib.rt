@@ -1,6 +1,7 @@
 // What a line does to the unit alone: Ppu -> Ppu, no memory. Inner functions, not public calls.
 // A line that draws nothing: blank_line, pre_render. One that is drawn: draws, drawn, with_hit, with_overflow. Where a run stops: meets_nmi, meets_hit.
 #![tactic(auto)]
+
 ghost use Rattle.std.specs.Prelude.{◌≡◌, true, not, ◌&&◌, List, ℕ, ◌<◌, eqb, ltb};
 ghost use Rattle.model.specs.Unit.{line_length, bit, is_rendering};
 ghost use Rattle.model.specs.Sprites.{overflows};

@@ -9,11 +9,11 @@ use lib.ListN.{length, take, drop}
 use borrow.Author.Tests.{eq-eqb, ne_eqb}
 use Rattle.model.specs.declared.Ppu.{Ppu}
 use Rattle.model.specs.Unit.{Memory, State, state}
-use Rattle.log.specs.declared.Played.{Played}
-use Rattle.log.specs.Play.{IsPlay, whole_bytes}
+use Rattle.logs.specs.declared.Played.{Played}
+use Rattle.logs.specs.Play.{IsPlay, whole_bytes}
 use Rattle.model.proofs.Good.{SameLengths, same_long, same_then}
 use Rattle.model.proofs.Log.{played_long}
-use Rattle.log.proofs.Playing.{kept_short}
+use Rattle.logs.proofs.Playing.{kept_short}
 use Rattle.player.specs.declared.Progress.{Progress}
 use Rattle.player.specs.Turns.{goes_on, turns_after, IsBlockTurn, IsTurn, Turns, none, next, most_turns, IsInput}
 

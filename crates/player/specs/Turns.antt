@@ -2,8 +2,8 @@
 use Rattle.std.specs.Prelude.{◌≡◌, List, ◌++◌, Bool, true, not, ◌&&◌, cond, ℕ, ◌+◌, ◌-◌, ◌<◌, ◌≤◌, eqb, length, take, drop}
 use Rattle.model.specs.declared.Ppu.{Ppu}
 use Rattle.model.specs.Unit.{Memory, State, state}
-use Rattle.log.specs.declared.Played.{Played}
-use Rattle.log.specs.Play.{IsPlay, whole_bytes}
+use Rattle.logs.specs.declared.Played.{Played}
+use Rattle.logs.specs.Play.{IsPlay, whole_bytes}
 use Rattle.player.specs.declared.Progress.{Progress}
 
 -- whether the player reads on: something was read, no refusal 5 has ended the play, and what it printed could be written

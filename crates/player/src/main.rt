@@ -58,7 +58,7 @@ fn play_read(
     ensures { IsBlockTurn kept more block.old (state u (line_memory left.old right.old nametables.old oam.old palette.old line.old colours.old))
         out.old result (line_memory left.new right.new nametables.new oam.new palette.new line.new colours.new) out.new block.new }
 {
-    let b = log::play_block(
+    let b = logs::play_block(
         u,
         block,
         kept + more,

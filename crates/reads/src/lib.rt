@@ -1,6 +1,7 @@
 // What a read of each port answers by the unit alone, and what it does to the unit: no memory. Inner functions, not public calls.
 // Answers: status_byte, palette_answer. The unit afterwards: read_status, read_data, fill_latch.
 #![tactic(auto)]
+
 ghost use Rattle.std.specs.Prelude.{◌≡◌, ◌+◌, ◌*◌, ◌/◌, ◌<◌};
 ghost use Rattle.model.specs.Unit.{with_buffer, with_latch};
 ghost use Rattle.model.specs.Ports.{stepped, greyed, status_byte, read_status};

@@ -213,8 +213,7 @@ fn pack(a: TextAnswer) -> u64
 }
 
 // For C: the text of a page.
-#[unsafe(no_mangle)]
-pub extern "C" fn ppu_text(page: &[u8], table: &[u8], rows: &mut [u8]) -> u64
+pub fn ppu_text(page: &[u8], table: &[u8], rows: &mut [u8]) -> u64
     ensures { written_for_c result rows.new ≡ exported_text (text_call page.now table.now rows.old) }
 {
     let a = text(page, table, rows);
@@ -222,8 +221,7 @@ pub extern "C" fn ppu_text(page: &[u8], table: &[u8], rows: &mut [u8]) -> u64
 }
 
 // For C: the page of rows.
-#[unsafe(no_mangle)]
-pub extern "C" fn ppu_page(rows: &[u8], table: &[u8], page: &mut [u8]) -> u64
+pub fn ppu_page(rows: &[u8], table: &[u8], page: &mut [u8]) -> u64
     ensures { written_for_c result page.new ≡ exported_text (page_call rows.now table.now page.old) }
 {
     let a = self::page(rows, table, page);

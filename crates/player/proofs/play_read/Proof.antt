@@ -1,6 +1,6 @@
 use mathlib.Core.Path.{refl, sym}
 use lib.Seq.{length-take-le}
-use Rattle.log.proofs.Playing.{written_fits}
+use Rattle.logs.proofs.Playing.{written_fits}
 use Rattle.player.proofs.Cases.{block_turn}
 use borrow.Author.Rules.{rules}
 use Rattle.player.proofs.play_read.Statement.{statement}
@@ -8,7 +8,7 @@ use Rattle.player.proofs.play_read.Tie as tie
 use Rattle.player.proofs.play_read.Reads as reads
 use Rattle.player.proofs.play_read.Lts as lts
 use Rattle.io.proofs.write_all.Reads as write-all-reads
-use Rattle.log.proofs.play_block.Reads as play-block-reads
+use Rattle.logs.proofs.play_block.Reads as play-block-reads
 use Rattle.player.proofs.goes_on.Reads as goes-on-reads
 
 add-play-block : tie.Need-overflow-add-play-block
