@@ -3,6 +3,7 @@
 // any8, list_eight, list_some, list_marked, list_places, at_most_eight, listed; the search: in_sixteen, eighth_from, eighth, tried_one, on_diagonal, tried_some, skip, next_byte,
 // diagonal, searched, is_over.
 #![tactic(auto)]
+
 ghost use Rattle.std.specs.Prelude.{◌≡◌, cond, true, [], ℕ, ◌+◌, ◌-◌, ◌*◌, ◌%◌, ◌<◌, ◌≤◌, eqb, ltb, length, get_or, take};
 ghost use Rattle.model.specs.Line.{tab, any_of};
 ghost use Rattle.model.specs.Sprites.{oam_at, height as height_of, is_in_range, covers, places_of, count_of, overflows, looked_at};

@@ -1,6 +1,7 @@
 // A sprite's two pattern bytes on a line. Inner functions, not public calls.
 // fetch. Within: row_of, second_table, tile_of, pattern_at, pattern_byte.
 #![tactic(auto)]
+
 ghost use Rattle.std.specs.Prelude.{◌≡◌, true, ◌<◌, length, get_or};
 ghost use Rattle.model.specs.Address.{table_of};
 ghost use Rattle.model.specs.Sprites.{covers, row_of, second_table, tile_of, pattern_at, fetched};

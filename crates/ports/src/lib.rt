@@ -2,6 +2,7 @@
 // they require the lengths that a call has checked.
 // read, write, write_kept, dma; below them read_byte, read_unit, wrote, copy_page.
 #![tactic(auto)]
+
 ghost use Rattle.std.specs.Prelude.{◌≡◌, false, [], length};
 ghost use Rattle.model.specs.Unit.{
   state,

@@ -2,6 +2,7 @@
 // spread, numbers: a byte's bits one to a byte; pixel numbers from two bytes' bits. byte: one of the eight.
 // sprite_bytes: the eight pixels of a sprite's row, from either side (order, sided).
 #![tactic(auto)]
+
 ghost use Rattle.std.specs.Prelude.{◌≡◌, cond, ℕ, ◌+◌, ◌-◌, ◌*◌, ◌/◌, ◌%◌, ◌<◌, ◌≤◌};
 ghost use Rattle.model.specs.Unit.{bit};
 ghost use Rattle.model.specs.Background.{colour_of, number_of};

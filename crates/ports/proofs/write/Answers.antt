@@ -1,0 +1,5 @@
+use Rattle.ports.proofs.Cases.{write_1}
+use Rattle.ports.proofs.write.Goals as goal
+
+pub returns : goal.returns
+returns c = search write_1

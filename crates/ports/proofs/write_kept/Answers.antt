@@ -1,0 +1,5 @@
+use Rattle.ports.proofs.Cases.{write_2}
+use Rattle.ports.proofs.write_kept.Goals as goal
+
+pub returns : goal.returns
+returns c = search write_2
