@@ -4,6 +4,7 @@
 // tiles, tiles_of: both strips into a row of pixels, out of one pattern table or the chosen one.
 // shift, background: the row from v's column and fine x on is the line.
 #![tactic(auto)]
+
 ghost use Rattle.std.specs.Prelude.{◌≡◌, ◌<◌, length};
 ghost use Rattle.model.specs.Unit.{pattern_length, nametable_length, line_length};
 ghost use Rattle.model.specs.Address.{table_of};

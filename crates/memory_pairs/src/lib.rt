@@ -1,6 +1,7 @@
 // The two-byte numbers that C lends as bytes, low byte first. Inner functions, not public calls.
 // word, take; low, high, store, put, put_same.
 #![tactic(auto)]
+
 ghost use Rattle.std.specs.Prelude.{◌≡◌, ◌+◌, ◌*◌, ◌/◌, ◌%◌, ◌<◌, length};
 ghost use Rattle.model.specs.Line.{tab};
 ghost use Rattle.model.specs.Colours.{numbers_of};

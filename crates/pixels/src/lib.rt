@@ -2,6 +2,7 @@
 // put8, put_tile: eight pixels stored in a row; those of a background tile. put_over: stored only where nothing opaque stands.
 // clear, merge8, meets: the left columns hidden, eight columns of sprites over background, sprite 0 hit.
 #![tactic(auto)]
+
 ghost use Rattle.std.specs.Prelude.{◌≡◌, cond, ◌&&◌, ℕ, ◌+◌, ◌-◌, ◌%◌, ◌<◌, ◌≤◌, eqb, ltb, length, get_or};
 ghost use Rattle.model.specs.Unit.{bit};
 ghost use Rattle.model.specs.Record.{bit_byte};

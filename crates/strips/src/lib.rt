@@ -2,6 +2,7 @@
 // Four tiles share an attribute byte, so whole groups of four are drawn.
 // strip_at: what is the same for all tiles of a strip. palette_at, put_column, put_pair, put_group, run: one tile, two, four, n groups.
 #![tactic(auto)]
+
 ghost use Rattle.std.specs.Prelude.{◌≡◌, ◌+◌, ◌*◌, ◌%◌, ◌<◌, ◌≤◌, length};
 ghost use Rattle.model.specs.Unit.{pattern_length, nametable_length};
 ghost use Rattle.pixels.specs.Row.{store_tab};

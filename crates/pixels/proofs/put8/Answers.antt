@@ -1,0 +1,21 @@
+use Prim.Native.Nat.{◌-◌}
+use mathlib.Core.Path.{◌≡◌, refl}
+use native.Mathlib.Omega.{arith}
+use lib.ListN.{length-set}
+use Rattle.pixels.specs.Row.{store_tab}
+use Rattle.pixels.proofs.Store.{store_more}
+use borrow.Author.Rules.{rules}
+use Rattle.pixels.proofs.put8.Goals as goal
+
+pub loop-j-init : goal.loop-j-init
+unfolding store_tab
+loop-j-init c = (search rules, refl, refl)
+
+pub loop-j-preserved : goal.loop-j-preserved
+loop-j-preserved c = (search rules, simp length-set (search rules), search store_more)
+
+pub returns : goal.returns
+returns c =
+    let l = c.loop-j in
+    let e : l.j ≡ 8 = omega arith in
+    rw e at l.invariant.2
