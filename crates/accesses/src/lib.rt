@@ -2,6 +2,7 @@
 // overflow. None has a `requires`: a call refuses what it cannot take, in the order 5, 2 for a record, 3, 2 for lent memory, 1, 4, and a refused
 // call leaves the unit, the record and every lent memory as they were.
 #![tactic(auto)]
+
 ghost use Rattle.std.specs.Prelude.{◌≡◌};
 ghost use Rattle.model.specs.Unit.{state, access_memory, dma_memory};
 ghost use Rattle.model.specs.Calls.{

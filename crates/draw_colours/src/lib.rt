@@ -1,6 +1,7 @@
 // Finished colours: the pixel numbers of a line as colours, into the bytes that C lends. Inner functions, not public calls.
 // One colour: colour, raised, backdrop_cell. A drawn line: show; in a run: run_table once, then look_up. A line that is off: backdrop.
 #![tactic(auto)]
+
 ghost use Rattle.std.specs.Prelude.{◌≡◌, ℕ, ◌+◌, ◌*◌, ◌/◌, ◌%◌, ◌<◌, length, get_or, false};
 ghost use Rattle.model.specs.Unit.{is_rendering};
 ghost use Rattle.model.specs.Ports.{greyed};

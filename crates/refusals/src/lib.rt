@@ -2,6 +2,7 @@
 // unmade; lengths: access_sizes, dma_sizes, line_sizes; refusals: record_refusal, access_refusal, plain_refusal, blocked_read;
 // the record and the packed answer: flag, pack, finish.
 #![tactic(auto)]
+
 ghost use Rattle.std.specs.Prelude.{◌≡◌, ◌&&◌, ◌*◌, ◌<◌, eqb};
 ghost use Rattle.model.specs.Unit.{line_length, colours_length};
 ghost use Rattle.model.specs.Record.{bit_byte};
