@@ -164,8 +164,8 @@ fn any8(m: &[u8], at: usize) -> u8
 // The n marked places below at stand at the front of `list`: the marked ones of the next eight come behind them. How many there are then.
 // Each place is stored, and the next goes over it unless it is marked.
 fn list_eight(m: &[u8], at: usize, n: usize, list: &mut [u8]) -> usize
-    requires m_len { (length m.now ≡ 64) × Marks m.now × (at + 8 ≤ 64) × (length list.old ≡ 65) }
-    requires n_value { (n ≡ count_of (is_marked m.now) at) × (take n list.old ≡ places_of (is_marked m.now) at) }
+    requires lengths { (length m.now ≡ 64) × Marks m.now × (at + 8 ≤ 64) × (length list.old ≡ 65) }
+    requires listed { (n ≡ count_of (is_marked m.now) at) × (take n list.old ≡ places_of (is_marked m.now) at) }
     ensures { (result ≡ count_of (is_marked m.now) (at + 8)) × (take result list.new ≡ places_of (is_marked m.now) (at + 8)) }
 {
     let mut k = n;
@@ -180,8 +180,8 @@ fn list_eight(m: &[u8], at: usize, n: usize, list: &mut [u8]) -> usize
 
 // The same, with nothing done where none of the eight is marked.
 fn list_some(m: &[u8], at: usize, n: usize, list: &mut [u8]) -> usize
-    requires m_len { (length m.now ≡ 64) × Marks m.now × (at + 8 ≤ 64) × (length list.old ≡ 65) }
-    requires n_value { (n ≡ count_of (is_marked m.now) at) × (take n list.old ≡ places_of (is_marked m.now) at) }
+    requires lengths { (length m.now ≡ 64) × Marks m.now × (at + 8 ≤ 64) × (length list.old ≡ 65) }
+    requires listed { (n ≡ count_of (is_marked m.now) at) × (take n list.old ≡ places_of (is_marked m.now) at) }
     ensures { (result ≡ count_of (is_marked m.now) (at + 8)) × (take result list.new ≡ places_of (is_marked m.now) (at + 8)) }
 {
     if any8(m, at) == 0 {

@@ -61,8 +61,8 @@ fn background_shown(
 
 // Sprite 0 and the line's background are opaque in some column below 255, sprites hidden in the first `skip`.
 fn zero_hits(u: Ppu, n: u8, skip: usize, left: &[u8], right: &[u8], oam: &[u8], line: &[u8]) -> bool
-    requires left_len { (length left.now ≡ 4096) × (length right.now ≡ 4096) × (length oam.now ≡ 256) × (length line.now ≡ 256) }
-    requires n_value { (n ≡ u.scanline) × (skip ≡ cond (bit 4 u.mask) 0 8) × (skip ≤ 8) × (bit 16 u.mask ≡ true) }
+    requires lengths { (length left.now ≡ 4096) × (length right.now ≡ 4096) × (length oam.now ≡ 256) × (length line.now ≡ 256) }
+    requires shown { (n ≡ u.scanline) × (skip ≡ cond (bit 4 u.mask) 0 8) × (skip ≤ 8) × (bit 16 u.mask ≡ true) }
     ensures { result ≡ hit_line u left.now right.now oam.now line.now }
 {
     sprites::zero_meets(u.control, n, skip, left, right, oam, line)
@@ -80,8 +80,8 @@ fn overlay(
     list: &[u8],
     line: &mut [u8],
 )
-    requires left_len { (length left.now ≡ 4096) × (length right.now ≡ 4096) × (length oam.now ≡ 256) × (length list.now ≡ 65) × (length line.old ≡ 256) }
-    requires n_value { (n ≡ u.scanline) × (skip ≡ cond (bit 4 u.mask) 0 8) × (skip ≤ 8) × (bit 16 u.mask ≡ true)
+    requires lengths { (length left.now ≡ 4096) × (length right.now ≡ 4096) × (length oam.now ≡ 256) × (length list.now ≡ 65) × (length line.old ≡ 256) }
+    requires shown { (n ≡ u.scanline) × (skip ≡ cond (bit 4 u.mask) 0 8) × (skip ≤ 8) × (bit 16 u.mask ≡ true)
         × (count ≤ 8) × (take count list.now ≡ cond (eqb n 0) [] (take 8 (places_of (covers u.control oam.now (n - 1)) 64))) }
     ensures { line.new ≡ over_line u left.now right.now oam.now line.old }
 {
@@ -102,8 +102,8 @@ fn sprites_on(
     list: &[u8],
     line: &mut [u8],
 ) -> bool
-    requires left_len { (length left.now ≡ 4096) × (length right.now ≡ 4096) × (length oam.now ≡ 256) × (length list.now ≡ 65) × (length line.old ≡ 256) }
-    requires n_value { (n ≡ u.scanline) × (bit 16 u.mask ≡ true)
+    requires lengths { (length left.now ≡ 4096) × (length right.now ≡ 4096) × (length oam.now ≡ 256) × (length list.now ≡ 65) × (length line.old ≡ 256) }
+    requires shown { (n ≡ u.scanline) × (bit 16 u.mask ≡ true)
         × (count ≤ 8) × (take count list.now ≡ cond (eqb n 0) [] (take 8 (places_of (covers u.control oam.now (n - 1)) 64))) }
     ensures { (line.new ≡ over_line u left.now right.now oam.now line.old)
         × (result ≡ hit_line u left.now right.now oam.now line.old) }

@@ -2,6 +2,7 @@
 // put_sprite, sprite_row: a sprite over pixels, the winning pixel of every column. Within: line_before, listed, fill_row, draw_row.
 // merge_row, zero_meets: those pixels over a line, sprite 0's hit. Within: covering. Pixels have 264 columns, so that a sprite at X = 255 has room; a line shows the first 256.
 #![tactic(auto)]
+
 ghost use Rattle.std.specs.Prelude.{◌≡◌, cond, true, [], ◌++◌, ℕ, ◌+◌, ◌-◌, ◌<◌, ◌≤◌, eqb, length, get_or, take, drop};
 ghost use Rattle.model.specs.Line.{tab, merged};
 ghost use Rattle.pixels.specs.Row.{meets_of};
@@ -102,8 +103,8 @@ pub fn sprite_row(
     list: &[u8],
     pixels: &mut [u8],
 )
-    requires left_len { (length left.now ≡ 4096) × (length right.now ≡ 4096) × (length oam.now ≡ 256) × (length list.now ≡ 65) × (length pixels.old ≡ 264) }
-    requires by_index { ((p : ℕ) → get_or pixels.old p 0 ≡ 0) × (count ≤ 8)
+    requires lengths { (length left.now ≡ 4096) × (length right.now ≡ 4096) × (length oam.now ≡ 256) × (length list.now ≡ 65) × (length pixels.old ≡ 264) }
+    requires listed { ((p : ℕ) → get_or pixels.old p 0 ≡ 0) × (count ≤ 8)
         × (take count list.now ≡ cond (eqb n 0) [] (take 8 (places_of (covers control oam.now (n - 1)) 64))) }
     ensures { ((p : ℕ) → get_or pixels.new p 0 ≡ sprite_on control left.now right.now oam.now n p)
         × (length pixels.new ≡ 264) }
@@ -120,8 +121,8 @@ pub fn sprite_row(
 
 // The sprites' row over a line, in the eight columns of each of the list's first `count` sprites: elsewhere the row has none.
 pub fn merge_row(line: &mut [u8], row: &[u8], count: usize, oam: &[u8], list: &[u8])
-    requires line_len { (length line.old ≡ 256) × (length row.now ≡ 264) × (length oam.now ≡ 256) × (length list.now ≡ 65) × (count ≤ 8) }
-    requires by_index { ((k : ℕ) → k < count → get_or list.now k 0 < 64) × ((p : ℕ) → Beside oam.now list.now count p → get_or row.now p 0 ≡ 0) }
+    requires lengths { (length line.old ≡ 256) × (length row.now ≡ 264) × (length oam.now ≡ 256) × (length list.now ≡ 65) × (count ≤ 8) }
+    requires listed { ((k : ℕ) → k < count → get_or list.now k 0 < 64) × ((p : ℕ) → Beside oam.now list.now count p → get_or row.now p 0 ≡ 0) }
     ensures { line.new ≡ tab (λ (p : ℕ). merged (get_or line.old p 0) (get_or row.now p 0)) 256 }
 {
     let mut i = 0;
