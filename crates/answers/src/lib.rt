@@ -1,6 +1,7 @@
 // What the player prints of a record's answer, stored in an output. Inner functions, not public calls.
 // put, hex_digit, put_read, digit, put_decimal, put_run, put_refused, put_text.
 #![tactic(auto)]
+
 ghost use Rattle.std.specs.Prelude.{◌≡◌, ◌+◌, ◌<◌, ◌≤◌, length};
 ghost use Rattle.std.proofs.lemmas.List.Edits.{sets};
 ghost use Rattle.model.specs.Log.{hex_digit, decimal, read_text, run_text, refused_text, entry_text};

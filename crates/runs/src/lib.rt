@@ -2,6 +2,7 @@
 // leaves the unit and every lent memory as they were. Within, for a reason that is known, the same with the colours lent as bytes, for C: run_bytes,
 // which does the work; for one line line_bytes, and undrawn_line for the unit alone of one that is not drawn.
 #![tactic(auto)]
+
 ghost use Rattle.std.specs.Prelude.{◌≡◌, true, false, ◌&&◌, List, ℕ, ◌≤◌, ltb};
 ghost use Rattle.model.specs.Unit.{state, line_memory, is_rendering, is_well_formed};
 ghost use Rattle.model.specs.Colours.{numbers_of};

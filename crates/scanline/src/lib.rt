@@ -3,6 +3,7 @@
 // A drawn line: background_shown, zero_hits, overlay, sprites_on, sprites_shown, draw.
 // Any line: undrawn_unit, undrawn_buffers, undrawn, one_line. A run: goes_on, run.
 #![tactic(auto)]
+
 ghost use Rattle.std.specs.Prelude.{◌≡◌, cond, true, false, not, ◌&&◌, List, [], ℕ, ◌+◌, ◌-◌, ◌<◌, ◌≤◌, eqb, ltb, length, take};
 ghost use Rattle.model.specs.Unit.{state, line_memory, line_length, bit, is_rendering, is_well_formed};
 ghost use Rattle.model.specs.Sprites.{covers, places_of, overflows};

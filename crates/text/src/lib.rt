@@ -3,6 +3,7 @@
 // Rows: entry, look_up, space, one, put_spaces, put_rows. A page: wide, inverse, tile_of, larger, put_tiles, copy. Both: sizes, pack.
 // Public: text, page, and quarter from below; for C: ppu_text, ppu_page.
 #![tactic(auto)]
+
 ghost use Rattle.std.specs.Prelude.{◌≡◌, cond, ◌++◌, ◌<◌, ◌≤◌, eqb, ltb, length, get_or, drop};
 ghost use Rattle.model.specs.Line.{tab, any_of};
 ghost use Rattle.model.specs.Sprites.{count_of};

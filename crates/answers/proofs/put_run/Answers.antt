@@ -1,0 +1,9 @@
+use Rattle.answers.proofs.Text.{run_cases}
+use Rattle.answers.proofs.put.Reads as put_reads
+use Rattle.answers.proofs.put_run.Goals as goal
+
+pub returns-then-nmi : goal.returns-then-nmi
+returns-then-nmi c = search run_cases
+
+pub returns : goal.returns
+returns c = search run_cases
