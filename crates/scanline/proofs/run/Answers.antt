@@ -34,10 +34,10 @@ loop-met-preserved-then-draws c =
     c.draw-f.ensures.0
     c.draw-f.ensures.1
     c.draw-f.ensures.2
-    c.meets-hit.ensures
+    c.meets_hit-met.ensures
     c.drawn-next.ensures
-    c.line-1.given
-    c.colours-1.given
+    (search rules)
+    (search rules)
 
 pub undrawn-next-requires : goal.undrawn-next-requires
 undrawn-next-requires c = (search rules, search rules, search rules, search rules, search draws_not)

@@ -7,7 +7,11 @@ pub returns-then-count-eq0 : goal.returns-then-count-eq0
 returns-then-count-eq0 c = (search over_3, search hit_3, search rules)
 
 pub sprites_on-hit-requires : goal.sprites_on-hit-requires
-sprites_on-hit-requires c = ((search rules, search rules, search rules, search rules, search rules), (search rules, search sprites_on, search rules, search rules))
+sprites_on-hit-requires c =
+    record {
+      lengths = (search rules, search rules, search rules, search rules, search rules);
+      shown = (search rules, search sprites_on, search rules, search rules);
+    }
 
 pub returns : goal.returns
 returns c = (search (over_2, sprites_off), search (hit_2, sprites_off), search rules)
