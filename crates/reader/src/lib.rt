@@ -1,6 +1,7 @@
 // The reading of a log of accesses: records of 4 bytes. Inner functions, not public calls.
 // By a cursor: Cursor, next, whole_entry, zero_ended; by a reader, which holds the lent log: Reader, start, moved, read, read_at.
 #![tactic(auto)]
+
 ghost use Rattle.std.specs.Prelude.{◌≡◌, cond, ◌+◌, ◌*◌, min, eqb, length, drop};
 ghost use Rattle.model.specs.Log.{whole as whole_record, records_of, record_entry, entry_of};
 
