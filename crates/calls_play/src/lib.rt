@@ -2,6 +2,7 @@
 // log at whose front no record stands, then as the record's call does, and a refused call leaves the unit and every lent memory as they were.
 // Within: read_done, read, play_entry.
 #![tactic(auto)]
+
 ghost use Rattle.std.specs.Prelude.{◌≡◌, length};
 ghost use Rattle.model.specs.Unit.{state, access_memory, video, VideoLengths, oam_length, line_memory};
 ghost use Rattle.model.specs.Calls.{access_outcome, line_outcome, on_lent, read_call, read_done, own};

@@ -1,6 +1,7 @@
 // The calls by the unit of a record, which the exports for C and their play share. Inner functions: what they take is checked as in the calls on a unit.
 // fresh_record, read_record, write_record; run, and within it line_record and run_record; play_entry.
 #![tactic(auto)]
+
 ghost use Rattle.std.specs.Prelude.{◌≡◌, ◌≤◌};
 ghost use Rattle.model.specs.Unit.{access_memory, line_memory};
 ghost use Rattle.model.specs.Colours.{numbers_of};
