@@ -3,6 +3,7 @@
 // were. Unit and memory of the unit that does not call are not looked at.
 // Within, what they hand back: first, second, neither.
 #![tactic(auto)]
+
 ghost use Rattle.std.specs.Prelude.{◌≡◌};
 ghost use Rattle.model.specs.Calls.{refusal, read_call, write_call, dma_call, run_call, own};
 ghost use Rattle.model_shared.specs.Shared.{

@@ -2,6 +2,7 @@
 // read_record, write_record, dma_record, run_record. The slices are borrowed anew first of all: so they need not go through memory where the branch of a
 // number calls.
 #![tactic(auto)]
+
 ghost use Rattle.std.specs.Prelude.{◌≡◌};
 ghost use Rattle.model.specs.Unit.{access_memory, dma_memory, line_memory};
 ghost use Rattle.model.specs.Colours.{numbers_of};

@@ -2,6 +2,7 @@
 // 1, 4, and a refused call leaves the unit and every lent memory as they were.
 // Within: barred, begins_shown, record_begins_shown, clear, and run_bytes for a reason that is known.
 #![tactic(auto)]
+
 ghost use Rattle.std.specs.Prelude.{◌≡◌, cond, ◌≤◌, length};
 ghost use Rattle.model.specs.Unit.{state, access_memory, dma_memory, line_memory, is_well_formed};
 ghost use Rattle.model.specs.Colours.{numbers_of};
