@@ -20,7 +20,8 @@ PLAYER = target/bin/player
 VERSION := $(shell sed -n 's/^\#define PPU_VERSION "\(.*\)"/\1/p' include/ppu.h)
 CFLAGS = -O2
 
-crates := $(shell find crates crates.txt)
+# what rt leaves in crates/NAME/out is no source
+crates := $(shell find crates crates.txt -path 'crates/*/out' -prune -o -print)
 prefix := $(abspath $(PREFIX))
 to = $(DESTDIR)$(prefix)
 tools = $(if $(wildcard tools/build),$(addprefix target/tools/,ppu-picture ppu-log ppu-text ppu-search) tools/ppu-batch)
@@ -36,11 +37,10 @@ $(foreach name,PREFIX DESTDIR ARCHIVE TEXT_ARCHIVE PLAYER,$(if $(word 2,$($(name
 all: $(ARCHIVE) $(TEXT_ARCHIVE) $(PLAYER)
 
 target/staticlib/lib%.a: $(crates)
-	rt staticlib $*
-	@touch $@
+	tools/archives $*
 
 target/bin/player: $(crates)
-	./play </dev/null
+	tools/archives player
 
 tools: $(ARCHIVE) $(TEXT_ARCHIVE)
 	$(if $(tools),ARCHIVE=$(abspath $(ARCHIVE)) TEXT_ARCHIVE=$(abspath $(TEXT_ARCHIVE)) tools/build)

@@ -662,8 +662,8 @@ test_viewer() {
 archive=$(realpath "${PPU_ARCHIVE:-target/staticlib/libppu.a}")
 text_archive=$(realpath "${PPU_TEXT_ARCHIVE:-target/staticlib/libtext.a}")
 player=$root/target/bin/player
-[ -f "$archive" ] || fail "no archive $archive: rt staticlib ppu makes it"
-[ -f "$text_archive" ] || fail "no archive $text_archive: rt staticlib text makes it"
+[ -f "$archive" ] || fail "no archive $archive: tools/archives ppu makes it"
+[ -f "$text_archive" ] || fail "no archive $text_archive: tools/archives text makes it"
 [ -x "$player" ] || fail "no player $player: ./play makes it"
 compilers=()
 for name in gcc clang; do

@@ -12,8 +12,8 @@ TOKEN = re.compile(r"""//[^\n]*|/\*.*?\*/|b"(?:\\.|[^"\\])*"|b'(?:\\.|[^'\\])'|\
 KEYWORDS = set("as break const continue else enum extern fn for if in let loop match mod mut pub ref return static struct type use while".split())
 NUMBERS = set("u8 u16 u32 u64 usize i8 i16 i32 i64 isize f32 f64 bool".split())
 BUILT_IN = {"count_ones", "leading_zeros", "trailing_zeros"}  # of a number, by its type's name
-METHODS = {"len"}
-AFTER_AN_ITEM = set("fn pub use ghost struct enum const type mod static extern impl #".split())
+METHODS = {"len", "wrapping_add"}  # of slices and of numbers: no function stands behind these
+AFTER_AN_ITEM = set("fn pub use ghost struct enum const type mod static extern impl unsafe trait macro_rules #".split())
 
 Token = namedtuple("Token", "text at")
 Function = namedtuple("Function", "name file public exported parameters body")  # parameters and body: tokens
@@ -21,6 +21,11 @@ Function = namedtuple("Function", "name file public exported parameters body")  
 
 class Unreadable(Exception):
     pass
+
+
+def kit():
+    """The folder of the kit."""
+    return Path(subprocess.run(["rt", "doc"], capture_output=True, text=True, check=True).stdout.strip()).parent
 
 
 def tokens_of(text):
@@ -41,7 +46,8 @@ def closing(tokens, at):
 class Module:
     """A file: its functions by name, what its `use` items bring in, by the name that they give it, and its modules."""
 
-    def __init__(self, path, file, text):
+    def __init__(self, path, file, text, own):
+        self.own = own  # of the project, and not of the kit
         self.path, self.file, self.functions, self.brought, self.passed_on, self.modules = path, file, {}, {}, [], []
         tokens, at = tokens_of(text), 0
         while at < len(tokens):
@@ -49,17 +55,15 @@ class Module:
 
     def item(self, tokens, at):
         """Reads what stands at this place of the top level; the place behind it."""
-        word, before = tokens[at].text, [t.text for t in tokens[max(0, at - 5):at]]
+        word, before = tokens[at].text, [t.text for t in tokens[max(0, at - 6):at] if t.text != "const"][-5:]
         if word == "use":
             end = next(i for i in range(at, len(tokens)) if tokens[i].text == ";")
             if before[-1:] != ["ghost"]:
                 self.use([t.text for t in tokens[at + 1:end]], before[-1:] == ["pub"])
             return end + 1
-        if word == "mod":
-            if tokens[at + 2].text != ";":
-                raise Unreadable(f"{self.file}: a module within a file")
+        if word == "mod" and tokens[at + 2].text == ";":  # one within a file is not read: a call that leads into it leads nowhere
             self.modules.append(tokens[at + 1].text)
-        if word == "impl":
+        if word == "impl" and self.own:
             raise Unreadable(f"{self.file}: methods are not read here")
         if word == "fn":
             exported = before[1:] == ["extern", '"', "C", '"']
@@ -105,12 +109,12 @@ class Source:
 
     def __init__(self, root):
         self.root, self.modules, self.known, self.text, self.of_file = root, {}, {}, None, None
-        listed = re.findall(r"^(\w+):", (root / "crates.txt").read_text(), re.M)
+        listed = dict(re.findall(r"^(\w+)( staticlib)?:", (root / "crates.txt").read_text(), re.M))
         self.crates = {name: root / "crates" / name / "src" for name in listed}
-        guide = subprocess.run(["rt", "doc"], capture_output=True, text=True, check=True).stdout.strip()
-        for folder in (Path(guide).parent.parent / "libs").iterdir():
-            if folder.is_dir():
-                self.crates[folder.name] = folder / "src"
+        self.static = {name for name, word in listed.items() if word}
+        for folder in (kit() / "rattle").iterdir():
+            if (folder / "src").is_dir():
+                self.crates.setdefault(folder.name, folder / "src")
 
     def altered(self, file, text):
         """The same source with another text for a file. What was read of the others is kept."""
@@ -134,13 +138,16 @@ class Source:
             files = [folder / "lib.rt", folder / "main.rt"]
         else:
             parent = self.module(path[:-1])
+            if parent is not None and path[-1] in parent.passed_on:
+                return self.module(parent.brought[path[-1]])
             if parent is None or path[-1] not in parent.modules:
                 return None
             files = [folder.joinpath(*path[1:]).with_suffix(".rt"), folder.joinpath(*path[1:], "mod.rt")]
         file = next((f for f in files if f.is_file()), None)
         if file is None:
             raise Unreadable(f"no file for {'::'.join(path)}")
-        return Module(path, file, self.text if file == self.of_file else file.read_text(encoding="utf-8"))
+        text = self.text if file == self.of_file else file.read_text(encoding="utf-8")
+        return Module(path, file, text, file.is_relative_to(self.root))
 
     def find(self, path, module):
         """The function that a path in a module names, or None."""
@@ -204,12 +211,16 @@ class Source:
         return reached
 
     def exporting(self):
-        """The crates of the project that export calls for C, and the public calls of each: what it has and what it passes on."""
+        """The crates of the project that export calls for C, and those whose calls they hand on; the public calls of each: what it has and what it
+        passes on."""
+        found = []
         for name in self.crates:
             if self.crates[name].is_relative_to(self.root):
-                module = self.module([name])
-                if any(f.exported for f in module.functions.values()):
-                    passed_on = {n: self.find([n], module) for n in module.passed_on if not n[0].isupper()}
-                    if None in passed_on.values():
-                        raise Unreadable(f"{name}: what it passes on leads nowhere: {passed_on}")
-                    yield name, [f for f in module.functions.values() if f.public] + list(passed_on.values())
+                exported = [f for f in self.module([name]).functions.values() if f.exported]
+                found += [name] * bool(exported) + [called.split("::")[0] for f in exported for called in self.calls(f)]
+        for name in dict.fromkeys(found):
+            module = self.module([name])
+            passed_on = {n: self.find([n], module) for n in module.passed_on if not n[0].isupper()}
+            if None in passed_on.values():
+                raise Unreadable(f"{name}: what it passes on leads nowhere: {passed_on}")
+            yield name, [f for f in module.functions.values() if f.public] + list(passed_on.values())
