@@ -799,14 +799,16 @@ picture_errors() {
     refuses 3 'ppu-picture: empty.log/picture-0001.png: Not a directory' ppu-picture -o empty.log "$log"
     refuses 3 'ppu-picture: /proc/nowhere: the folder cannot be made' ppu-picture -o /proc/nowhere "$log"
     refuses 3 'ppu-picture: a/b: the folder cannot be made: No such file' ppu-picture -o a/b "$log"
-    ln -s /dev/full full.png
-    refuses 3 'ppu-picture: full.png: cannot be written: No space' ppu-picture --last -o full.png "$log"
+    outside=$(mktemp -d) # a link in the repository would end rt ci
+    ln -s /dev/full "$outside/full.png"
+    refuses 3 "ppu-picture: $outside/full.png: cannot be written: No space" ppu-picture --last -o "$outside/full.png" "$log"
+    rm -r "$outside"
     refuses 4 'ppu-picture: cut.log: record 2: refused 5: record cut short, 3 of 4 bytes' ppu-picture cut.log
     refuses 4 'ppu-picture: nonzero.log: record 1: refused 5: the last byte of a read is \$01, not 0' ppu-picture nonzero.log
     refuses 5 'ppu-picture: empty.log: the log is empty' ppu-picture empty.log
     refuses 5 'ppu-picture: short.log: no whole picture: the log ends before line 239' ppu-picture short.log
     refuses 5 'ppu-picture: .*: no picture: it has 4 whole pictures, --every 5' ppu-picture --every 5 "$log"
-    rm empty.log short.log cut.log nonzero.log some.pal full.png
+    rm empty.log short.log cut.log nonzero.log some.pal
 }
 
 # A picture that cannot be written whole, by a limit as on a full disk: it is not there, nor a part of it.
@@ -1037,6 +1039,9 @@ OUT=$bin tools/build ppu-picture || no_libpng=$?
 cp tools/ppu-batch "$bin"
 PATH=$bin:$PATH
 cd "$work"
+for name in log picture search text; do
+    cmp "$root/tools/start" "$root/tools/ppu-$name" || fail "tools/ppu-$name is no copy of tools/start"
+done
 make_logs
 log_text
 log_round_trips
