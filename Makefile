@@ -20,8 +20,8 @@ PLAYER = target/bin/player
 VERSION := $(shell sed -n 's/^\#define PPU_VERSION "\(.*\)"/\1/p' include/ppu.h)
 CFLAGS = -O2
 
-# what rt leaves in crates/NAME/out is no source
-crates := $(shell find crates crates.txt -path 'crates/*/out' -prune -o -print)
+# what rt leaves in crates/NAME/out is no source, and it makes the folder NAME newer
+crates := $(shell find crates crates.txt -path 'crates/*/out' -prune -o -type d -path 'crates/*' ! -path 'crates/*/*' -o -print)
 prefix := $(abspath $(PREFIX))
 to = $(DESTDIR)$(prefix)
 tools = $(if $(wildcard tools/build),$(addprefix target/tools/,ppu-picture ppu-log ppu-text ppu-search) tools/ppu-batch)

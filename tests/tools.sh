@@ -768,7 +768,7 @@ RECORDS
 }
 
 picture_errors() {
-    local log=$root/examples/picture.log scale length
+    local log=$root/examples/picture.log scale length outside
     : >empty.log
     log_of short.log 'RUN 239' 'R 2002'
     log_of cut.log 'RUN 100' 'RAW 02 01 06'
