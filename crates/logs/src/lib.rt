@@ -2,6 +2,7 @@
 // play_one (one entry and its text), place_after, play_found, play_next (the next record of a log), play_log (a whole log), play_block (a block of a
 // longer log), whole, keep.
 #![tactic(auto)]
+
 ghost use Rattle.std.specs.Prelude.{◌≡◌, cond, ◌++◌, ◌+◌, ◌-◌, ◌*◌, ◌/◌, ◌≤◌, length, take, drop};
 ghost use Rattle.model.specs.Unit.{state, line_memory};
 ghost use Rattle.logs.specs.Play.{IsStep, IsFound, IsNext, IsPlay, whole_bytes};

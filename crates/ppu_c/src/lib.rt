@@ -87,7 +87,9 @@ pub extern "C" fn ppu_run(
     ensures { exported result unit.new (line_memory left.now right.now nametables.now oam.now palette.now line.new (numbers_of colours.new)) ≡
         exported_call (run_call own reason lines) unit.old (line_memory left.now right.now nametables.now oam.now palette.now line.old (numbers_of colours.old)) }
 {
-    ppu::ppu_run(unit, lines, reason, left, right, nametables, oam, palette, line, colours)
+    ppu::ppu_run(
+        unit, lines, reason, left, right, nametables, oam, palette, line, colours,
+    )
 }
 
 // For C: the record at the front of a log, by the unit of a record.
@@ -106,7 +108,9 @@ pub extern "C" fn ppu_play(
     ensures { exported result unit.new (line_memory left.new right.new nametables.new oam.new palette.new line.new (numbers_of colours.new)) ≡
         exported_play log.now unit.old (line_memory left.old right.old nametables.old oam.old palette.old line.old (numbers_of colours.old)) }
 {
-    ppu::ppu_play(unit, log, left, right, nametables, oam, palette, line, colours)
+    ppu::ppu_play(
+        unit, log, left, right, nametables, oam, palette, line, colours,
+    )
 }
 
 // For C: a read by unit 0 or 1.
@@ -128,7 +132,20 @@ pub extern "C" fn ppu_shared_read(
     ensures { turn result (access_machine unit0.new unit1.new left.now right.now nametables0.now nametables1.now oam0.now oam1.now palette0.now palette1.now) ≡
         shared_export which (read_call own address) (access_machine unit0.old unit1.old left.now right.now nametables0.now nametables1.now oam0.now oam1.now palette0.now palette1.now) }
 {
-    ppu::ppu_shared_read(which, unit0, unit1, address, left, right, nametables0, nametables1, oam0, oam1, palette0, palette1)
+    ppu::ppu_shared_read(
+        which,
+        unit0,
+        unit1,
+        address,
+        left,
+        right,
+        nametables0,
+        nametables1,
+        oam0,
+        oam1,
+        palette0,
+        palette1,
+    )
 }
 
 // For C: a write by unit 0 or 1.
@@ -151,7 +168,21 @@ pub extern "C" fn ppu_shared_write(
     ensures { turn result (access_machine unit0.new unit1.new left.now right.now nametables0.new nametables1.new oam0.new oam1.new palette0.new palette1.new) ≡
         shared_export which (write_call own address byte) (access_machine unit0.old unit1.old left.now right.now nametables0.old nametables1.old oam0.old oam1.old palette0.old palette1.old) }
 {
-    ppu::ppu_shared_write(which, unit0, unit1, address, byte, left, right, nametables0, nametables1, oam0, oam1, palette0, palette1)
+    ppu::ppu_shared_write(
+        which,
+        unit0,
+        unit1,
+        address,
+        byte,
+        left,
+        right,
+        nametables0,
+        nametables1,
+        oam0,
+        oam1,
+        palette0,
+        palette1,
+    )
 }
 
 // For C: sprite DMA by unit 0 or 1.
@@ -192,5 +223,21 @@ pub extern "C" fn ppu_shared_run(
     ensures { turn result (run_machine unit0.new unit1.new left.now right.now nametables0.now nametables1.now oam0.now oam1.now palette0.now palette1.now line.new (numbers_of colours.new)) ≡
         shared_export which (run_call own reason lines) (run_machine unit0.old unit1.old left.now right.now nametables0.now nametables1.now oam0.now oam1.now palette0.now palette1.now line.old (numbers_of colours.old)) }
 {
-    ppu::ppu_shared_run(which, unit0, unit1, lines, reason, left, right, nametables0, nametables1, oam0, oam1, palette0, palette1, line, colours)
+    ppu::ppu_shared_run(
+        which,
+        unit0,
+        unit1,
+        lines,
+        reason,
+        left,
+        right,
+        nametables0,
+        nametables1,
+        oam0,
+        oam1,
+        palette0,
+        palette1,
+        line,
+        colours,
+    )
 }
