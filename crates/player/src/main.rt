@@ -1,13 +1,15 @@
 // Plays a log of accesses from standard input and prints what its records come to, in constant memory, from a fresh
-// unit of board 9 and memory that is all zero. The work is done by the crate log; here are the reads and writes.
+// unit of board 9 and memory that is all zero. The work is done by the crate logs; here are the reads and writes.
 // goes_on, read_more, play_read, turn: one block. turns_left, play_input: block after block. main: the memory.
 #![tactic(auto)]
+
 ghost use Rattle.std.specs.Prelude.{◌≡◌, ◌+◌, ◌<◌, ◌≤◌, length, take};
 ghost use Rattle.model.specs.Unit.{state, line_memory};
 ghost use Rattle.model.specs.Log.{start_state};
 ghost use Rattle.player.specs.Turns.{goes_on, turns_after, IsBlockTurn, IsTurn, IsInput};
 
 use model::Ppu;
+use std::io::{Read, Stdin, Stdout, Write};
 
 // The unit after a block, how many bytes are kept of a record that the block cut, and whether to go on.
 #[derive(Clone, Copy)]
@@ -31,16 +33,19 @@ fn goes_on(more: usize, is_written: bool, ended: bool) -> bool
 }
 
 // Reads once, behind the bytes that are kept; how many bytes came, 0 at the end of the input and where it cannot be read.
-fn read_more(block: &mut [u8], kept: usize) -> usize
+fn read_more(mut stdin: Stdin, block: &mut [u8], kept: usize) -> usize
     requires { kept ≤ length block.old }
     ensures { (kept + result ≤ length block.old) × (take kept block.new ≡ take kept block.old) }
 {
-    let got = libc::read(libc::STDIN_FILENO, &mut block[kept..]);
-    io::count(got, &block[kept..])
+    match stdin.read(&mut block[kept..]) {
+        Ok(more) => more,
+        Err(_) => 0,
+    }
 }
 
 // Plays a block in which so many bytes were read behind those that are kept, and writes what that prints.
 fn play_read(
+    mut stdout: Stdout,
     u: Ppu,
     kept: usize,
     more: usize,
@@ -74,7 +79,7 @@ fn play_read(
     );
     let played = b.played;
     let written = played.written;
-    let is_written = io::write_all(libc::STDOUT_FILENO, &out[..written]);
+    let is_written = stdout.write_all(&out[..written]).is_ok();
     let going = goes_on(more, is_written, played.ended);
     let unit = played.unit;
     let kept = b.kept;
@@ -83,6 +88,8 @@ fn play_read(
 
 // Reads, plays what is there and writes what that prints.
 fn turn(
+    stdin: Stdin,
+    stdout: Stdout,
     p: Progress,
     block: &mut [u8],
     out: &mut [u8],
@@ -100,9 +107,9 @@ fn turn(
 {
     let u = p.unit;
     let kept = p.kept;
-    let more = read_more(block, kept);
+    let more = read_more(stdin, block, kept);
     play_read(
-        u, kept, more, block, out, left, right, nametables, oam, palette, line, colours,
+        stdout, u, kept, more, block, out, left, right, nametables, oam, palette, line, colours,
     )
 }
 
@@ -120,6 +127,8 @@ fn turns_left(turns: u64, going: bool) -> u64
 
 // Plays standard input, from the state in which the player begins.
 fn play_input(
+    stdin: Stdin,
+    stdout: Stdout,
     u: Ppu,
     block: &mut [u8],
     out: &mut [u8],
@@ -143,13 +152,13 @@ fn play_input(
     let mut turns = u64::MAX;
     while turns > 0 {
         p = turn(
-            p, block, out, left, right, nametables, oam, palette, line, colours,
+            stdin, stdout, p, block, out, left, right, nametables, oam, palette, line, colours,
         );
         turns = turns_left(turns, p.going);
     }
 }
 
-fn main() {
+fn main(rt: HostRuntime) {
     let mut block = [0u8; 16384];
     let mut out = [0u8; 65536];
     let mut left = [0u8; 4096];
@@ -162,6 +171,8 @@ fn main() {
     let a = accesses::fresh(9);
     let u = a.unit;
     play_input(
+        rt.stdin(),
+        rt.stdout(),
         u,
         &mut block,
         &mut out,
