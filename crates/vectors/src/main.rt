@@ -5,9 +5,11 @@
 // One function a group of values: cells, palette_cells, scrolling, stepping, rows, status, runs, colours, searches, refusals,
 // records, tiles.
 #![tactic(auto)]
+
 ghost use Rattle.std.specs.Prelude.{◌<◌, ◌≤◌};
 
 use model::{Access, Ppu};
+use std::io;
 
 // A unit of this board that is warmed up.
 fn warmed(board: u8) -> Ppu {
@@ -182,50 +184,46 @@ fn number(a: Access) -> u64 {
 }
 
 // A line: what a value is, and the value.
-fn say(what: &[u8], value: u64) {
-    io::write_all(libc::STDOUT_FILENO, what);
-    io::print_decimal(libc::STDOUT_FILENO, value);
-    io::write_all(libc::STDOUT_FILENO, b"\n");
+fn say(rt: &impl Print, what: &str, value: u64) -> io::Result<()> {
+    println!(rt; "{what}{value}")
 }
 
 // The same in hex.
-fn say_hex(what: &[u8], value: u64) {
-    io::write_all(libc::STDOUT_FILENO, what);
-    io::print_hex(libc::STDOUT_FILENO, value, 2);
-    io::write_all(libc::STDOUT_FILENO, b"\n");
+fn say_hex(rt: &impl Print, what: &str, value: u64) -> io::Result<()> {
+    println!(rt; "{what}{value:02x}")
 }
 
-fn cells() {
-    say(b"$2C05, wiring 0: cell ", cell(0, 0x2C05) as u64);
-    say(b"$2C05, wiring 1: cell ", cell(1, 0x2C05) as u64);
-    say(b"$2C05, wiring 3: cell ", cell(3, 0x2C05) as u64);
-    say(b"$2C05, wiring 2: cell ", cell(2, 0x2C05) as u64);
-    say(b"$2405, wiring 0: cell ", cell(0, 0x2405) as u64);
-    say(b"$2405, wiring 1: cell ", cell(1, 0x2405) as u64);
-    say(b"$3EFF, wiring 0: cell ", cell(0, 0x3EFF) as u64);
-    say(b"$2000, wiring 4: cell ", page_cell(0x2000) as u64);
-    say(b"$2400, wiring 4: cell ", page_cell(0x2400) as u64);
-    say(b"$2800, wiring 4: cell ", page_cell(0x2800) as u64);
-    say(b"$2C05, wiring 4: cell ", page_cell(0x2C05) as u64);
-    say(b"$2FFF, wiring 4: cell ", page_cell(0x2FFF) as u64);
-    say(b"$3EFF, wiring 4: cell ", page_cell(0x3EFF) as u64);
+fn cells(rt: &impl Print) -> io::Result<()> {
+    say(rt, "$2C05, wiring 0: cell ", cell(0, 0x2C05) as u64)?;
+    say(rt, "$2C05, wiring 1: cell ", cell(1, 0x2C05) as u64)?;
+    say(rt, "$2C05, wiring 3: cell ", cell(3, 0x2C05) as u64)?;
+    say(rt, "$2C05, wiring 2: cell ", cell(2, 0x2C05) as u64)?;
+    say(rt, "$2405, wiring 0: cell ", cell(0, 0x2405) as u64)?;
+    say(rt, "$2405, wiring 1: cell ", cell(1, 0x2405) as u64)?;
+    say(rt, "$3EFF, wiring 0: cell ", cell(0, 0x3EFF) as u64)?;
+    say(rt, "$2000, wiring 4: cell ", page_cell(0x2000) as u64)?;
+    say(rt, "$2400, wiring 4: cell ", page_cell(0x2400) as u64)?;
+    say(rt, "$2800, wiring 4: cell ", page_cell(0x2800) as u64)?;
+    say(rt, "$2C05, wiring 4: cell ", page_cell(0x2C05) as u64)?;
+    say(rt, "$2FFF, wiring 4: cell ", page_cell(0x2FFF) as u64)?;
+    say(rt, "$3EFF, wiring 4: cell ", page_cell(0x3EFF) as u64)
 }
 
-fn palette_cells() {
-    say(b"$3F10: palette ", cell(0, 0x3F10) as u64);
-    say(b"$3F14: palette ", cell(0, 0x3F14) as u64);
-    say(b"$3F11: palette ", cell(0, 0x3F11) as u64);
-    say(b"$3FFF: palette ", cell(0, 0x3FFF) as u64);
+fn palette_cells(rt: &impl Print) -> io::Result<()> {
+    say(rt, "$3F10: palette ", cell(0, 0x3F10) as u64)?;
+    say(rt, "$3F14: palette ", cell(0, 0x3F14) as u64)?;
+    say(rt, "$3F11: palette ", cell(0, 0x3F11) as u64)?;
+    say(rt, "$3FFF: palette ", cell(0, 0x3FFF) as u64)
 }
 
-fn scrolling() {
+fn scrolling(rt: &impl Print) -> io::Result<()> {
     let first = wrote(warmed(0), 0x2005, 125);
     let second = wrote(first, 0x2005, 94);
-    say(b"port 5 with 125, 94: t ", second.t as u64);
-    say(b"port 5 with 125, 94: x ", second.x as u64);
+    say(rt, "port 5 with 125, 94: t ", second.t as u64)?;
+    say(rt, "port 5 with 125, 94: x ", second.x as u64)?;
     let third = wrote(second, 0x2006, 0x3D);
     let fourth = wrote(third, 0x2006, 0xF0);
-    say(b"then port 6 with $3D, $F0: v ", fourth.v as u64);
+    say(rt, "then port 6 with $3D, $F0: v ", fourth.v as u64)
 }
 
 // v after a read of port 7, with this control.
@@ -238,9 +236,9 @@ fn stepped(control: u8) -> u64 {
     n.v as u64
 }
 
-fn stepping() {
-    say(b"v 32767 + 1: ", stepped(0));
-    say(b"v 32767 + 32: ", stepped(4));
+fn stepping(rt: &impl Print) -> io::Result<()> {
+    say(rt, "v 32767 + 1: ", stepped(0))?;
+    say(rt, "v 32767 + 32: ", stepped(4))
 }
 
 // v after line 0 with the background on, t being 0.
@@ -253,33 +251,34 @@ fn lowered(v: u16) -> u64 {
     n.v as u64
 }
 
-fn rows() {
-    say(b"row down 29600: ", lowered(29600));
-    say(b"row down 29664: ", lowered(29664));
-    say(b"row down 29568: ", lowered(29568));
+fn rows(rt: &impl Print) -> io::Result<()> {
+    say(rt, "row down 29600: ", lowered(29600))?;
+    say(rt, "row down 29664: ", lowered(29664))?;
+    say(rt, "row down 29568: ", lowered(29568))?;
     say(
-        b"v 31: cell 1024 is seen from column ",
+        rt,
+        "v 31: cell 1024 is seen from column ",
         opaque_column(31, 1024) as u64,
-    );
+    )
 }
 
-fn status() {
+fn status(rt: &impl Print) -> io::Result<()> {
     let mut u = warmed(0);
     u.status = 0x80;
     u.latch = 0x35;
     let first = got(u, 0x2002);
     let a = first.answer;
-    say_hex(b"status $80, latch $35: read 2 gives $", a.byte as u64);
+    say_hex(rt, "status $80, latch $35: read 2 gives $", a.byte as u64)?;
     let n = first.unit;
     let second = got(n, 0x2002);
     let b = second.answer;
-    say_hex(b"then $", b.byte as u64);
+    say_hex(rt, "then $", b.byte as u64)
 }
 
-fn runs() {
-    say(b"run of 262 from 241: lines ", ran(241) as u64);
-    say(b"run of 262 from 242: lines ", ran(242) as u64);
-    say(b"run of 262 from 0: lines ", ran(0) as u64);
+fn runs(rt: &impl Print) -> io::Result<()> {
+    say(rt, "run of 262 from 241: lines ", ran(241) as u64)?;
+    say(rt, "run of 262 from 242: lines ", ran(242) as u64)?;
+    say(rt, "run of 262 from 0: lines ", ran(0) as u64)
 }
 
 fn wide(n: u16) -> u64 {
@@ -318,18 +317,18 @@ fn shown(mask: u8, v: u16) -> u64 {
     wide(colours[255])
 }
 
-fn colours() {
-    say(b"$D6 is shown as colour ", shown(0x1E, 0));
-    say(b"in greyscale ", shown(0x1F, 0));
-    say(b"with red ", shown(0x3E, 0));
-    say(b"with green ", shown(0x5E, 0));
-    say(b"with blue ", shown(0x9E, 0));
-    say(b"with all three, in greyscale ", shown(0xFF, 0));
-    say(b"off, v $3EFF: colour ", shown(0, 0x3EFF));
-    say(b"off, v $3F01: colour ", shown(0, 0x3F01));
-    say(b"off, v $3F14: colour ", shown(0, 0x3F14));
-    say(b"off, v $7F01: colour ", shown(0, 0x7F01));
-    say(b"off, mask $A1, v $3F01: colour ", shown(0xA1, 0x3F01));
+fn colours(rt: &impl Print) -> io::Result<()> {
+    say(rt, "$D6 is shown as colour ", shown(0x1E, 0))?;
+    say(rt, "in greyscale ", shown(0x1F, 0))?;
+    say(rt, "with red ", shown(0x3E, 0))?;
+    say(rt, "with green ", shown(0x5E, 0))?;
+    say(rt, "with blue ", shown(0x9E, 0))?;
+    say(rt, "with all three, in greyscale ", shown(0xFF, 0))?;
+    say(rt, "off, v $3EFF: colour ", shown(0, 0x3EFF))?;
+    say(rt, "off, v $3F01: colour ", shown(0, 0x3F01))?;
+    say(rt, "off, v $3F14: colour ", shown(0, 0x3F14))?;
+    say(rt, "off, v $7F01: colour ", shown(0, 0x7F01))?;
+    say(rt, "off, mask $A1, v $3F01: colour ", shown(0xA1, 0x3F01))
 }
 
 // The sprites that the search on line 20 looks at.
@@ -367,7 +366,7 @@ fn overflow(oam: &[u8]) -> u64 {
 }
 
 // Eight sprites from this place of OAM on and one byte more are in range of line 20, all others are not.
-fn search_with(what: &[u8], from: usize, more: usize)
+fn search_with(rt: &impl Print, what: &str, from: usize, more: usize) -> io::Result<()>
     requires { (from ≤ 224) × (more < 256) }
 {
     let mut oam = [255u8; 256];
@@ -380,92 +379,101 @@ fn search_with(what: &[u8], from: usize, more: usize)
     oam[from + 24] = 20;
     oam[from + 28] = 20;
     oam[more] = 20;
-    say(what, looked(&oam));
-    say(b"status bit 5: ", overflow(&oam));
+    say(rt, what, looked(&oam))?;
+    say(rt, "status bit 5: ", overflow(&oam))
 }
 
-fn searches() {
-    search_with(b"sprites 0 to 8 in range: looked at ", 0, 32);
-    search_with(b"sprites 0 to 7 and 9: looked at ", 0, 36);
-    search_with(b"sprites 0 to 7, tile byte of 9: looked at ", 0, 37);
-    search_with(b"sprites 56 to 63: looked at ", 224, 224);
-    search_with(b"sprites 0 to 7, X byte of 63: looked at ", 0, 255);
+fn searches(rt: &impl Print) -> io::Result<()> {
+    search_with(rt, "sprites 0 to 8 in range: looked at ", 0, 32)?;
+    search_with(rt, "sprites 0 to 7 and 9: looked at ", 0, 36)?;
+    search_with(rt, "sprites 0 to 7, tile byte of 9: looked at ", 0, 37)?;
+    search_with(rt, "sprites 56 to 63: looked at ", 224, 224)?;
+    search_with(rt, "sprites 0 to 7, X byte of 63: looked at ", 0, 255)
 }
 
-fn refusals() {
+fn refusals(rt: &impl Print) -> io::Result<()> {
     let u = warmed(0);
     let oam = [0u8; 257];
-    say(b"$1FFF: ", number(got(u, 0x1FFF)));
-    say(b"$4000: ", number(got(u, 0x4000)));
-    say(b"$3FFF: ", number(got(u, 0x3FFF)));
-    say(b"255 bytes of OAM: ", number(tried(u, 0x2002, &oam[..255])));
-    say(b"257 bytes of OAM: ", number(tried(u, 0x2002, &oam)));
+    say(rt, "$1FFF: ", number(got(u, 0x1FFF)))?;
+    say(rt, "$4000: ", number(got(u, 0x4000)))?;
+    say(rt, "$3FFF: ", number(got(u, 0x3FFF)))?;
+    say(
+        rt,
+        "255 bytes of OAM: ",
+        number(tried(u, 0x2002, &oam[..255])),
+    )?;
+    say(rt, "257 bytes of OAM: ", number(tried(u, 0x2002, &oam)))?;
     let mut late = u;
     late.scanline = 262;
-    say(b"next line 262: ", number(got(late, 0x2002)));
+    say(rt, "next line 262: ", number(got(late, 0x2002)))?;
     say(
-        b"next line 262, 257 bytes of OAM: ",
+        rt,
+        "next line 262, 257 bytes of OAM: ",
         number(tried(late, 0x2002, &oam)),
-    );
+    )?;
     let ram = [0u8; 4096];
-    say(b"wiring 0, 4096 bytes: ", number(lent(u, &ram)));
+    say(rt, "wiring 0, 4096 bytes: ", number(lent(u, &ram)))?;
     say(
-        b"wiring 4, 2048 bytes: ",
+        rt,
+        "wiring 4, 2048 bytes: ",
         number(lent(warmed(4), &ram[..2048])),
-    );
-    say(b"wiring 4, 4096 bytes: ", number(lent(warmed(4), &ram)));
+    )?;
+    say(rt, "wiring 4, 4096 bytes: ", number(lent(warmed(4), &ram)))?;
     say(
-        b"a search on line 240: ",
+        rt,
+        "a search on line 240: ",
         number(ppu::search(late, 240, &oam)),
-    );
+    )?;
     say(
-        b"a search on line 239: ",
+        rt,
+        "a search on line 239: ",
         number(ppu::search(u, 239, &oam[..256])),
-    );
+    )
 }
 
 // A unit saved and loaded again, and records that are refused.
-fn records() {
+fn records(rt: &impl Print) -> io::Result<()> {
     let mut u = warmed(9);
     u.v = 15856;
     let mut bytes = [0u8; 16];
-    say(b"a unit saved: ", number(ppu::save(u, &mut bytes)));
+    say(rt, "a unit saved: ", number(ppu::save(u, &mut bytes)))?;
     let a = ppu::load(&bytes);
     let n = a.unit;
-    say(b"loaded again: v ", n.v as u64);
+    say(rt, "loaded again: v ", n.v as u64)?;
     let short = [0u8; 15];
-    say(b"15 bytes of a record: ", number(ppu::load(&short)));
-    say(b"board byte 4: ", number(ppu::fresh(4)));
-    say(b"board byte 5: ", number(ppu::fresh(5)));
-    say(b"board byte 12: ", number(ppu::fresh(12)));
-    say(b"board byte 13: ", number(ppu::fresh(13)));
+    say(rt, "15 bytes of a record: ", number(ppu::load(&short)))?;
+    say(rt, "board byte 4: ", number(ppu::fresh(4)))?;
+    say(rt, "board byte 5: ", number(ppu::fresh(5)))?;
+    say(rt, "board byte 12: ", number(ppu::fresh(12)))?;
+    say(rt, "board byte 13: ", number(ppu::fresh(13)))
 }
 
 // Where byte 42 stands in a tile, by its table, and a part where a table is too short.
-fn tiles() {
+fn tiles(rt: &impl Print) -> io::Result<()> {
     let left = [0u8; 4096];
     let mut right = [0u8; 4096];
     right[4083] = 42;
     let part = ppu::tile(&left, &right, true, 255);
     say(
-        b"tile 255 of the right table: 42 at ",
+        rt,
+        "tile 255 of the right table: 42 at ",
         place(part, 42) as u64,
-    );
+    )?;
     let none = ppu::tile(&left[..4095], &right, true, 255);
-    say(b"with a short table, bytes: ", none.len() as u64);
+    say(rt, "with a short table, bytes: ", none.len() as u64)
 }
 
-fn main() {
-    cells();
-    palette_cells();
-    scrolling();
-    stepping();
-    rows();
-    status();
-    runs();
-    colours();
-    searches();
-    refusals();
-    records();
-    tiles();
+fn main(rt: HostRuntime) -> io::Result<()> {
+    cells(&rt)?;
+    palette_cells(&rt)?;
+    scrolling(&rt)?;
+    stepping(&rt)?;
+    rows(&rt)?;
+    status(&rt)?;
+    runs(&rt)?;
+    colours(&rt)?;
+    searches(&rt)?;
+    refusals(&rt)?;
+    records(&rt)?;
+    tiles(&rt)
 }
