@@ -1,12 +1,5 @@
--- The ways of each function: what a definition is under the tests that a way has passed, and what a turn's parts make of it.
-use Prim.Native.Nat.{ℕ, ◌+◌, ◌-◌, ◌<◌, ◌≤◌}
-use mathlib.Core.Path.{◌≡◌, refl, sym, ◌∙◌, subst}
-use mathlib.Core.List.{List, ◌++◌}
-use mathlib.Core.Bool.{Bool, true, false, false≢true, cond}
-use native.Mathlib.Omega.{arith}
-use lib.Dec.{eqb}
-use lib.ListN.{length, take, drop}
-use borrow.Author.Tests.{eq-eqb, ne_eqb}
+-- What a turn's parts make of it, and what a turn adds to the turns before it.
+use Rattle.std.proofs.Common.{◌≡◌, ℕ, ◌+◌, ◌-◌, ◌<◌, ◌≤◌, Bool, true, false, List, ◌++◌, length, take, drop, refl, sym, ◌∙◌, subst, arith, cond, eqb}
 use Rattle.model.specs.declared.Ppu.{Ppu}
 use Rattle.model.specs.Unit.{Memory, State, state}
 use Rattle.logs.specs.declared.Played.{Played}
@@ -15,33 +8,7 @@ use Rattle.model.proofs.Good.{SameLengths, same_long, same_then}
 use Rattle.model.proofs.Log.{played_long}
 use Rattle.logs.proofs.Playing.{kept_short}
 use Rattle.player.specs.declared.Progress.{Progress}
-use Rattle.player.specs.Turns.{goes_on, turns_after, IsBlockTurn, IsTurn, Turns, none, next, most_turns, IsInput}
-
-module _ (more : ℕ) (w e : Bool) where
-  pub goes_1 : more ≡ 0 → false ≡ goes_on more w e
-  unfolding goes_on
-  goes_1 p = simp (eq-eqb _ _ p)
-
-  pub goes_2 : (more ≡ 0 → ⊥) → e ≡ true → false ≡ goes_on more w e
-  unfolding goes_on
-  goes_2 p q = simp (ne_eqb _ _ p, q)
-
-  pub goes_3 : (more ≡ 0 → ⊥) → e ≡ false → w ≡ goes_on more w e
-  unfolding goes_on
-  goes_3 p q = simp (ne_eqb _ _ p, q)
-
-pub ruleset goes_cases = (goes_1, goes_2, goes_3)
-
-module _ (turns : ℕ) (going : Bool) where
-  pub left_1 : going ≡ true → turns - 1 ≡ turns_after turns going
-  unfolding turns_after
-  left_1 p = rw p
-
-  pub left_2 : going ≡ false → 0 ≡ turns_after turns going
-  unfolding turns_after
-  left_2 p = rw p
-
-pub ruleset left_cases = (left_1, left_2)
+use Rattle.player.specs.Turns.{goes_on, turns_after, IsBlockTurn, IsTurn, Turns, none, next, most_turns}
 
 module _ (kept more : ℕ) (block block' out out' : List ℕ) (s : State) (x : Progress) (m : Memory) where
   pub block_turn : (p : Played) (last w g : Bool) (k : ℕ) → IsPlay (take (whole_bytes last (kept + more)) block) s out p m out'
@@ -60,17 +27,6 @@ module _ (kept more : ℕ) (block block' out out' : List ℕ) (s : State) (x : P
         front = rw (← l, c) f;
         going = h;
       })
-
-module _ (p : Progress) (more : ℕ) (block filled block' out out' : List ℕ) (m : Memory) (x : Progress) (m' : Memory) where
-  pub turn_done : p.kept + more ≤ length block → length filled ≡ length block → take p.kept filled ≡ take p.kept block
-      → IsBlockTurn p.kept more filled (state p.unit m) out x m' out' block' → IsTurn p block m out x m' out' block'
-  turn_done h l b t = record {
-    more = more;
-    filled = filled;
-    fits = omega (arith, h, l);
-    behind = b;
-    turn = t;
-  }
 
 -- a turn leaves memory of the same lengths
 turn_long : (p : Progress) (block : List ℕ) (m : Memory) (out : List ℕ) (x : Progress) (m' : Memory) (out' block' : List ℕ) → IsTurn p block m out x m' out' block' → SameLengths m m'
@@ -97,10 +53,6 @@ unfolding turns_after
 rest_after true k t t' e f = omega (arith, e, f)
 rest_after false k t t' e f = f
 
-used_up : (g : Bool) (k t : ℕ) → k ≤ most_turns → t ≡ cond g (most_turns - k) 0 → t ≤ 0 → g ≡ true → k ≡ most_turns
-used_up true k t h e p q = omega (arith, h, e, p)
-used_up false k t h e p q = absurd (false≢true q)
-
 module _ (u : Ppu) (m : Memory) (out block : List ℕ) where
   pub input_start : (p : Progress) → p ≡ record { unit = u; kept = 0; going = true } → Playing u m out block p most_turns m out block
   input_start p e = rw e (record { count = 0; turns = none; room = omega arith; rest = refl; short = omega arith; block_long = refl; out_long = refl; lengths = same_long m })
@@ -120,8 +72,3 @@ module _ (u : Ppu) (m : Memory) (out block : List ℕ) where
           out_long = o ∙ y.out_long;
           lengths = same_then y.lengths (turn_long p block' m' out' x m'' out'' block'' t);
         }
-
-    pub input_over : left ≤ 0 → IsInput u m out block m' out' block'
-    input_over h = record { count = y.count; last = p; turns = y.turns; over = used_up p.going y.count left y.room y.rest h }
-
-pub ruleset input_cases = (input_start, input_next, input_over)

@@ -1,6 +1,5 @@
 -- The player begins with a fresh unit, board 9, all memory zero.
-use mathlib.Core.Path.{◌≡◌}
-use lib.ListN.{replicate}
+use Rattle.std.proofs.Common.{◌≡◌, replicate}
 use Rattle.model.specs.declared.Access.{Access}
 use Rattle.model.specs.Unit.{line_memory, state}
 use Rattle.model.specs.Record.{board_ok, wiring_at}
