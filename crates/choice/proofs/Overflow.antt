@@ -1,5 +1,5 @@
 -- The search for overflow: the place of the eighth, and the diagonal from the next sprite on.
-use Prim.Native.Nat.{ℕ, zero, suc, ◌+◌, ◌-◌, ◌*◌, ◌/◌, ◌%◌, ◌<◌, ◌≤◌}
+use Prim.Native.Nat.{ℕ, ◌+◌, ◌-◌, ◌*◌, ◌/◌, ◌%◌, ◌<◌, ◌≤◌}
 use mathlib.Core.Path.{◌≡◌, refl, sym, ◌∙◌}
 use mathlib.Core.Bool.{Bool, true, false, cond, ◌&&◌, ◌||◌, true≢false}
 use mathlib.Core.List.{List, []}
@@ -8,7 +8,7 @@ use native.Mathlib.Numerals.{add-one}
 use borrow.Author.Tests.{eq-eqb, ne_eqb, leb-true, ltb-true}
 use lib.Bits.{bit_or, bit_and}
 use lib.Dec.{eqb, leb, ltb}
-use lib.ListN.{length, get_or, take}
+use lib.ListN.{get_or, take}
 use Rattle.model.specs.Line.{tab, any_of}
 use Rattle.model.specs.Sprites.{oam_at, height, is_in_range, covers, places_of, count_of, tried, looks_of, overflows, looked_at}
 use Rattle.model.proofs.Tests.{and_both}

@@ -1,6 +1,6 @@
 -- The search for overflow as the code makes it.
 use Rattle.std.specs.Prelude.{◌≡◌, Bool, false, ◌&&◌, List, ℕ, ◌+◌, ◌*◌, ◌/◌, ◌%◌, ◌≤◌, eqb, get_or}
-use Rattle.model.specs.Sprites.{is_in_range, Look, looks_of}
+use Rattle.model.specs.Sprites.{is_in_range, looks_of}
 
 -- byte j behind byte 0 of a sprite is tried after it: byte 1 of the next sprite, 2 and 3 of the ones behind, then 0 again
 unfoldable pub on_diagonal : ℕ → Bool

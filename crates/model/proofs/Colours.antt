@@ -4,16 +4,16 @@ use mathlib.Core.Bool.{Bool, true, false, cond, not, ◌&&◌}
 use mathlib.Core.List.{List, [], ◌∷◌, map}
 use Prim.Native.Nat.{ℕ, zero, suc, ◌+◌, ◌*◌, ◌/◌, ◌%◌, ◌≤◌, ◌<◌}
 use native.Mathlib.Omega.{arith}
-use lib.Dec.{eqb, ltb, leb}
+use lib.Dec.{eqb}
 use lib.ListN.{length, get_or, drop, length-map}
 use borrow.Author.Tests.{lt-ltb, le-ltb, le-leb, lt-leb, eq-eqb, ne_eqb, eqb-true, eqb-false}
 use Rattle.model.specs.declared.Ppu.{Ppu}
-use Rattle.model.specs.Unit.{Cells, State, state, bit, is_rendering, line_length, colours_length}
+use Rattle.model.specs.Unit.{Cells, State, bit, is_rendering, line_length, colours_length}
 use Rattle.model.specs.Address.{palette_cell}
 use Rattle.model.specs.Record.{at}
 use Rattle.model.specs.Ports.{greyed, data_byte}
 use Rattle.model.specs.Colours.{is_overridden, shown_cell, emphasis, colour_at, coloured, paired, numbers_of}
-use Rattle.model.specs.Line.{tab, pixel_of, picture, drawn_line, blank_unit, one_line}
+use Rattle.model.specs.Line.{pixel_of, picture, drawn_line, one_line}
 use Rattle.model.specs.Theorems.{AreBytes, Colours, ColouredLines, ColourBytes}
 use Rattle.model.proofs.Tests.{cond_both}
 use Rattle.model.proofs.Tab.{length_tab, get_or_tab}

@@ -13,7 +13,7 @@ use Rattle.model.specs.Address.{place_of, byte_at, cell_of, page_at, palette_cel
 use Rattle.model.specs.Ports.{stepped, wrote_control, wrote_mask, wrote_oamaddr, wrote_scroll, wrote_address, wrote_port, wrote_memory, wrote_oam_bytes, wrote_video, read_byte, read_status, read_data, read_unit, status_byte, data_byte, buffer_byte}
 use Rattle.model.specs.Line.{one_line, blank_unit, idle_line, vblank_line, pre_render_line, lines_run, meets_reason, line_count, reason_met}
 use Rattle.model.specs.Calls.{Call, on_lent, call, refusal_of, order, done, read_done, write_done, run_done, search_done}
-use Rattle.model.specs.Reload.{end, end_of, total_of, trace, data_call, seven, joined, reload, all_below, Quiet, Pair, Held}
+use Rattle.model.specs.Reload.{end_of, total_of, trace, data_call, seven, joined, reload, all_below, Quiet, Pair, Held}
 use Rattle.model.specs.Example.{filled, board12, short, start, one, two, further, Example}
 use Rattle.model.proofs.Tests.{and_both}
 use Rattle.model.proofs.Needed.{places, bytes, lengths, held, quiet}

@@ -21,7 +21,7 @@ use Rattle.model.specs.Line.{marked, status_of, drawn_unit, drawn_line, idle_lin
 use Rattle.model.specs.Calls.{Lent, own, other, Call, read_call, write_call, dma_call, run_call, search_call, Outcome, outcome, refusal, long_for, line_long, request_ok, in_range, blocked, order, refusal_of, read_done, write_done, dma_done, run_done, search_done, done, gate, on_lent, lent_of, lent_memory, own_memory, call}
 use Rattle.model.proofs.Tests.{cond_both, and_l, and_r}
 use Rattle.model.proofs.Colours.{coloured_long}
-use Rattle.model.proofs.Line.{picture_long, line_cells, line_board, lines_board, run_next, run_reports}
+use Rattle.model.proofs.Line.{picture_long, line_cells, lines_board, run_reports}
 use Rattle.model.proofs.Kept.{Good, good, well, Nums, Kept, kept_refl, kept_read, kept_write, kept_dma}
 use Rattle.model.proofs.Scroll.{down_lt, side_lt}
 

@@ -10,7 +10,7 @@ use Rattle.model.specs.declared.Answer.{Answer}
 use Rattle.model.specs.declared.Entry.{Entry}
 use Rattle.model.specs.declared.Entry.TheVariants.{Read, Write, Run, Refused}
 use Rattle.model.specs.Unit.{Memory, State}
-use Rattle.model.specs.Calls.{own, read_call, write_call, run_call, Outcome, outcome, refusal, on_lent, packed, Exported, exported, exported_call}
+use Rattle.model.specs.Calls.{own, read_call, write_call, run_call, Outcome, outcome, refusal, on_lent, packed, exported, exported_call}
 use Rattle.model.specs.Log.{Record, whole, cut, records_of, record_known, record_call, play_one, front_of, play_call, exported_one, exported_play, record_entry, entry_of, play_entry, exported_entry, decimal, read_text, run_text, refused_text, done_text, kind_of, text_of, entry_done, entry_text, ends, played_text, played_state, play_ends}
 use Rattle.model.proofs.Tests.{cond_both}
 use Rattle.model.proofs.Good.{by_gate, good_of, done_sound, SameLengths, same_long, same_then, lent_long}

@@ -1,15 +1,14 @@
 -- What a reader expects of the search for overflow.
 use mathlib.Core.Path.{◌≡◌, refl, sym, ap, ◌∙◌}
-use mathlib.Core.Bool.{Bool, true, false, true≢false, cond, ◌&&◌, ◌||◌, or-true, or-false}
+use mathlib.Core.Bool.{Bool, true, false, true≢false, cond, ◌||◌, or-true, or-false}
 use mathlib.Core.List.{List}
 use Prim.Native.Nat.{ℕ, zero, suc, ◌+◌, ◌-◌, ◌*◌, ◌/◌, ◌%◌, ◌≤◌, ◌<◌}
 use native.Mathlib.Omega.{arith}
 use native.Mathlib.Numerals.{add-one}
 use native.Mathlib.Nat.{add-zero, add-suc}
-use lib.Dec.{eqb, leb, ltb}
+use lib.Dec.{leb}
 use lib.ListN.{length}
 use borrow.Author.Tests.{leb-true, leb-false, lt-leb, lt-ltb, le-ltb, eq-eqb}
-use Rattle.model.specs.declared.Ppu.{Ppu}
 use Rattle.model.specs.Unit.{State, oam_length, bit, is_well_formed, is_rendering, is_drawing, nmi_level}
 use Rattle.model.specs.Sprites.{covers, count_of, tried, Look, looked_on, look_on, looks_of, overflows, looked_at}
 use Rattle.model.specs.Line.{marked, status_of, drawn_unit, drawn_line, one_line}

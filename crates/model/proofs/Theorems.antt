@@ -1,11 +1,11 @@
 -- The statements of specs/Theorems.antt, proved.
 use mathlib.Core.Path.{◌≡◌, refl, sym, ap, ◌∙◌, subst}
-use mathlib.Core.Bool.{Bool, true, false, true≢false, cond, ◌&&◌, ◌||◌}
+use mathlib.Core.Bool.{Bool, true, false, cond, ◌&&◌, ◌||◌}
 use mathlib.Core.List.{List, [], ◌∷◌, ◌++◌, append_assoc}
 use mathlib.Core.Logic.{◌⊎◌, ⊎_elim}
 use Prim.Native.Nat.{ℕ, zero, suc, ◌+◌, ◌*◌, ◌<◌}
 use native.Mathlib.Omega.{arith}
-use native.Mathlib.Nat.{add_assoc, add-zero}
+use native.Mathlib.Nat.{add-zero}
 use lib.Dec.{lit<, ltb, eqb}
 use lib.ListN.{length, get_or, take, drop, take-append-drop}
 use lib.Seq.{drop-cons}
@@ -15,13 +15,13 @@ use Rattle.model.specs.declared.Ppu.{Ppu}
 use Rattle.model.specs.declared.Access.{Access}
 use Rattle.model.specs.declared.Answer.{Answer}
 use Rattle.model.specs.Unit.{Memory, dma_memory, State, state, record_length, is_well_formed, is_drawing}
-use Rattle.model.specs.Record.{at, unit_of, record_of, record_ok, bit_byte}
+use Rattle.model.specs.Record.{unit_of, record_of, record_ok, bit_byte}
 use Rattle.model.specs.Ports.{port_of}
-use Rattle.model.specs.Calls.{access, refused_access, load_call, made, Saved, save_call, refusal, Call, Outcome, outcome, outcome_on, long_for, request_ok, order, in_range, blocked, refusal_of, done, gate, on_lent, lent_of, lent_memory, call, packed, exported, on_record, exported_call}
-use Rattle.model.specs.Reload.{end, end_of, total, total_of, trace, Places, Bytes, seven, joined, reload, step, without, Within, all_below, bytes_only, Held, Needed, Alike}
-use Rattle.model.specs.RecordLog.{RecordState, record_state, record_call, record_trace, record_system, RecordNeeded, RecordAlike}
+use Rattle.model.specs.Calls.{access, refused_access, load_call, Saved, refusal, Call, Outcome, outcome, outcome_on, long_for, request_ok, order, in_range, blocked, refusal_of, done, gate, on_lent, lent_of, lent_memory, call, packed, exported, on_record, exported_call}
+use Rattle.model.specs.Reload.{end, end_of, total, total_of, trace, Places, Bytes, seven, joined, reload, step, without, Within, all_below, bytes_only, Held, Needed}
+use Rattle.model.specs.RecordLog.{RecordState, record_state, record_call, record_trace, record_system, RecordNeeded}
 use Rattle.model.specs.Log.{Record, whole, cut, records_of, record_known, record_call as records_call, play_one, front_of, play_call, exported_one, exported_play}
-use Rattle.model.specs.Theorems.{AreBelow, AreBytes, Refusals, RoundTrips, Frames, Lending, Traces, DataCalls, HeldBytes, PackedParts, Arguments, ReloadTheorem, Mirrors, Steps, PlayedRecords, Theorems}
+use Rattle.model.specs.Theorems.{AreBelow, AreBytes, Refusals, RoundTrips, Lending, Traces, DataCalls, HeldBytes, PackedParts, Arguments, ReloadTheorem, Mirrors, Steps, PlayedRecords, Theorems}
 use Rattle.model.proofs.Tests.{and_both}
 use Rattle.model.proofs.Accepted.{is_refused, is_unmade, and_none}
 use Rattle.model.proofs.Record.{bit_small, unit_record_unit, load_save, load_is, save_is, save_load, board_codes}

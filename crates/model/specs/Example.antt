@@ -5,8 +5,8 @@ use Rattle.model.specs.declared.Wiring.TheVariants.{FourPages}
 use Rattle.model.specs.Unit.{Memory, nametable_length, access_cells, State, state, unit}
 use Rattle.model.specs.Record.{record_of}
 use Rattle.model.specs.Calls.{own, other, Call, read_call, write_call, dma_call, run_call, search_call}
-use Rattle.model.specs.Reload.{end, total, trace, data_call, Places, Bytes, reload, Pair, Alike, Held, AllFit}
-use Rattle.model.specs.RecordLog.{RecordState, record_state, record_system, RecordPair, RecordAlike}
+use Rattle.model.specs.Reload.{end, trace, data_call, Places, Bytes, reload, Pair, Alike, Held, AllFit}
+use Rattle.model.specs.RecordLog.{record_state, RecordPair}
 
 -- a board's memory, all filled with a byte, the finished colours with two of it
 unfoldable pub filled : Board → ℕ → Memory

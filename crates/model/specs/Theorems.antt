@@ -11,8 +11,8 @@ use Rattle.model.specs.Ports.{port_of, data_byte}
 use Rattle.model.specs.Sprites.{covers, count_of, tried, overflows, looked_at}
 use Rattle.model.specs.Colours.{shown_cell, colour_at, numbers_of}
 use Rattle.model.specs.Line.{any_of, hit_of, one_line, lines_run, meets_reason, line_count, reason_met}
-use Rattle.model.specs.Calls.{made, unmade, fresh_call, load_call, saved, save_call, refusal, Lent, own, other, Call, read_call, write_call, dma_call, run_call, search_call, Outcome, outcome, line_long, long_for, request_ok, in_range, blocked, refusal_of, done, on_lent, lent_of, given, call, packed, Exported, exported, on_record, exported_call}
-use Rattle.model.specs.Reload.{end, total, trace, data_call, At, Places, Bytes, seven, joined, reload, step, without, Pair, Alike, Within, all_below, bytes_only, Held, LentFits, Fits, AllFit, Needed, end_of}
+use Rattle.model.specs.Calls.{made, unmade, fresh_call, load_call, saved, save_call, refusal, Lent, own, other, Call, read_call, write_call, dma_call, run_call, search_call, Outcome, outcome, line_long, long_for, request_ok, in_range, blocked, refusal_of, on_lent, lent_of, given, call, packed, Exported, exported, on_record, exported_call}
+use Rattle.model.specs.Reload.{end, total, trace, data_call, At, Places, Bytes, seven, joined, reload, step, without, Pair, Alike, Within, all_below, Held, LentFits, Fits, AllFit, Needed, end_of}
 use Rattle.model.specs.RecordLog.{RecordState, record_state, record_given, record_call, record_trace, record_system, RecordPair, RecordNeeded, RecordAlike}
 use Rattle.model.specs.Log.{record_known, record_call as records_call, play_call, exported_play}
 use Rattle.model.specs.Scroll.{nametable, row, column}

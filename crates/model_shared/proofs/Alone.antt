@@ -9,7 +9,7 @@ use lib.ListN.{length, replicate, length-replicate}
 use borrow.Author.Tests.{eqb-true, eqb-false, eq-eqb, ltb-true, lt-ltb}
 use Rattle.model.specs.Unit.{Cells, Memory, access_cells, with_lines}
 use Rattle.model.specs.Calls.{Lent, own, other, Call, lent_of, lent_memory, own_memory}
-use Rattle.model_shared.specs.Shared.{Own, owned, Machine, machine, own_of, memory_of, left_by, Left, left, Units, turn, by_number}
+use Rattle.model_shared.specs.Shared.{Own, owned, Machine, own_of, memory_of, left_by, Left, Units, turn, by_number}
 use Rattle.model_shared.specs.Sequence.{Entry, is_run, left_of, own_after, Shown, shown_of, machine_after, after_all, shown_to, only_by, calls_of, all_by}
 use Rattle.model_shared.specs.Theorems.{SharedTurns, Unseen}
 use Rattle.model_shared.proofs.Seen.{blank, Stays, stays, Blind}

@@ -14,7 +14,7 @@ use Rattle.model.specs.declared.Access.{Access}
 use Rattle.model.specs.Unit.{Memory, with_lines, State, state, line_length, colours_length, record_length, long, is_well_formed}
 use Rattle.model.specs.Record.{unit_of, record_of}
 use Rattle.model.specs.Line.{lines_run, line_count}
-use Rattle.model.specs.Calls.{Lent, own, other, Call, read_call, write_call, dma_call, run_call, search_call, access, Outcome, outcome, outcome_on, refusal, refused_access, load_call, request_ok, refusal_of, done, on_lent, lent_of, lent_memory, own_memory, call, saved_bytes, exported, export_of, on_record, exported_call}
+use Rattle.model.specs.Calls.{Lent, own, other, Call, read_call, write_call, dma_call, run_call, search_call, access, Outcome, outcome, outcome_on, refusal, refused_access, load_call, request_ok, refusal_of, done, on_lent, lent_of, lent_memory, own_memory, call, saved_bytes, export_of, on_record, exported_call}
 use Rattle.model.specs.Reload.{end, end_of, plain, data_call, Places, Bytes, reload, without, PairOf, Pair, Held, Needed}
 use Rattle.model.specs.RecordLog.{RecordState, record_state, record_call, record_system, RecordPairOf, RecordPair, RecordNeeded}
 use Rattle.model.proofs.Tests.{cond_both}

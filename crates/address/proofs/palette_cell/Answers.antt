@@ -1,6 +1,5 @@
 use native.Mathlib.Omega.{arith}
 use Rattle.address.proofs.Cases.{palette_cases}
-use Rattle.bits.proofs.low.Reads as low_reads
 use Rattle.address.proofs.palette_cell.Goals as goal
 
 pub returns-then-low-eq0 : goal.returns-then-low-eq0

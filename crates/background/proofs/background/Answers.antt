@@ -1,5 +1,4 @@
 use Rattle.background.proofs.Cases.{background_cases}
-use Rattle.bits.proofs.low.Reads as low_reads
 use Rattle.background.proofs.background.Goals as goal
 
 pub returns : goal.returns

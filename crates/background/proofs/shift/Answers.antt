@@ -1,4 +1,3 @@
-use Prim.Native.Nat.{◌-◌}
 use lib.ListN.{length-set}
 use Rattle.model.proofs.Tab.{tab_none}
 use Rattle.background.proofs.Cases.{shift_cases}

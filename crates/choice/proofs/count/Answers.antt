@@ -1,4 +1,3 @@
-use Prim.Native.Nat.{◌-◌}
 use native.Mathlib.Omega.{arith}
 use Rattle.choice.proofs.Loops.{counted_loop}
 use Rattle.choice.proofs.count.Goals as goal

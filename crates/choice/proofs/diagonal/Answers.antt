@@ -1,6 +1,5 @@
 use Rattle.choice.proofs.Overflow.{diagonal_loop}
 use native.Mathlib.Omega.{arith}
-use Prim.Native.Nat.{◌-◌}
 use Rattle.choice.proofs.diagonal.Goals as goal
 
 pub loop-i-init : goal.loop-i-init

@@ -1,4 +1,3 @@
-use Prim.Native.Nat.{◌-◌}
 use native.Mathlib.Omega.{arith}
 use Rattle.choice.proofs.Overflow.{past_loop}
 use Rattle.choice.proofs.eighth.Goals as goal

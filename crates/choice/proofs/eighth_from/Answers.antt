@@ -1,4 +1,3 @@
-use Prim.Native.Nat.{◌-◌}
 use native.Mathlib.Omega.{arith}
 use Rattle.choice.proofs.Overflow.{eighth_loop}
 use Rattle.choice.proofs.eighth_from.Goals as goal

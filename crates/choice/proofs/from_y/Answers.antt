@@ -1,4 +1,3 @@
-use Prim.Native.Nat.{◌-◌}
 use native.Mathlib.Omega.{arith}
 use Rattle.choice.proofs.Loops.{filled_loop}
 use Rattle.choice.proofs.from_y.Goals as goal

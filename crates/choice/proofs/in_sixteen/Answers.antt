@@ -1,4 +1,3 @@
-use Prim.Native.Nat.{◌-◌}
 use native.Mathlib.Omega.{arith}
 use Rattle.choice.proofs.Overflow.{sixteen_loop}
 use Rattle.choice.proofs.in_sixteen.Goals as goal

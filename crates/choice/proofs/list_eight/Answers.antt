@@ -1,4 +1,3 @@
-use Prim.Native.Nat.{◌-◌}
 use Rattle.choice.proofs.Loops.{listed_loop}
 use Rattle.choice.proofs.list_eight.Goals as goal
 

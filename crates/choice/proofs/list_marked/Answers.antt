@@ -1,4 +1,3 @@
-use Prim.Native.Nat.{◌-◌}
 use Rattle.choice.proofs.Loops.{blocks_loop}
 use Rattle.choice.proofs.list_marked.Goals as goal
 

@@ -1,4 +1,3 @@
-use Prim.Native.Nat.{◌-◌}
 use Rattle.choice.proofs.Loops.{filled_loop}
 use Rattle.choice.proofs.marks.Goals as goal
 

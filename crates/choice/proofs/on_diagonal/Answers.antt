@@ -1,6 +1,5 @@
 use native.Mathlib.Omega.{arith}
 use Rattle.choice.proofs.Overflow.{on_diagonal_cases}
-use Rattle.bits.proofs.low.Reads as low_reads
 use Rattle.choice.proofs.on_diagonal.Goals as goal
 
 pub returns-then-sprite-byte : goal.returns-then-sprite-byte

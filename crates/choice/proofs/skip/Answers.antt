@@ -1,4 +1,3 @@
-use Prim.Native.Nat.{◌-◌}
 use borrow.Author.Rules.{rules}
 use Rattle.choice.proofs.Overflow.{eight_on}
 use Rattle.choice.proofs.skip.Goals as goal

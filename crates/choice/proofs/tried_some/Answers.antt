@@ -1,4 +1,3 @@
-use Prim.Native.Nat.{◌-◌}
 use native.Mathlib.Omega.{arith}
 use Rattle.choice.proofs.Overflow.{some_loop}
 use Rattle.choice.proofs.tried_some.Goals as goal

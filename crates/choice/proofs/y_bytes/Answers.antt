@@ -1,4 +1,3 @@
-use Prim.Native.Nat.{◌-◌}
 use native.Mathlib.Omega.{arith}
 use Rattle.choice.proofs.Loops.{filled_loop}
 use Rattle.choice.proofs.y_bytes.Goals as goal

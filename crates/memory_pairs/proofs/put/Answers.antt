@@ -1,4 +1,3 @@
-use Prim.Native.Nat.{◌-◌}
 use Rattle.memory_pairs.proofs.Cases.{put_cases}
 use Rattle.memory_pairs.proofs.put.Goals as goal
 

@@ -1,4 +1,3 @@
-use Prim.Native.Nat.{◌-◌}
 use Rattle.memory_pairs.proofs.Cases.{same_cases}
 use Rattle.memory_pairs.proofs.put_same.Goals as goal
 

@@ -1,5 +1,4 @@
 use Rattle.memory_pairs.proofs.Cases.{store_is}
-use Rattle.memory_pairs.proofs.low.Reads as low_reads
 use Rattle.memory_pairs.proofs.store.Goals as goal
 
 pub returns : goal.returns

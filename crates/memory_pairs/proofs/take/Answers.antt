@@ -1,4 +1,3 @@
-use Prim.Native.Nat.{◌-◌}
 use Rattle.memory_pairs.proofs.Cases.{take_cases}
 use Rattle.memory_pairs.proofs.take.Goals as goal
 

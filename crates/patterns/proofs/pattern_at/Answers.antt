@@ -1,6 +1,5 @@
 use native.Mathlib.Omega.{arith}
 use Rattle.patterns.proofs.Cases.{pattern_1}
-use Rattle.bits.proofs.low.Reads as low_reads
 use Rattle.patterns.proofs.pattern_at.Goals as goal
 
 pub returns : goal.returns

@@ -1,4 +1,3 @@
-use Prim.Native.Nat.{◌-◌}
 use Rattle.pixels.proofs.Hit.{met_loop}
 use Rattle.pixels.proofs.meets.Goals as goal
 

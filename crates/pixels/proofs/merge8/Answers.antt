@@ -1,4 +1,3 @@
-use Prim.Native.Nat.{◌-◌}
 use Rattle.pixels.proofs.Merge.{merging_loop}
 use Rattle.pixels.proofs.merge8.Goals as goal
 

@@ -1,4 +1,3 @@
-use Prim.Native.Nat.{◌-◌}
 use Rattle.ports.proofs.Cases.{copy_cases}
 use Rattle.ports.proofs.copy_page.Goals as goal
 

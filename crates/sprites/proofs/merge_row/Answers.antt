@@ -1,4 +1,3 @@
-use Prim.Native.Nat.{◌-◌}
 use native.Mathlib.Omega.{arith}
 use Rattle.sprites.proofs.Merge.{laid_done, laid_loop}
 use borrow.Author.Rules.{rules}

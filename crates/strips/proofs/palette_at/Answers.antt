@@ -1,6 +1,5 @@
 use native.Mathlib.Omega.{arith}
 use Rattle.strips.proofs.Cases.{palette_cases}
-use Rattle.bits.proofs.low.Reads as low_reads
 use Rattle.strips.proofs.palette_at.Goals as goal
 
 pub returns : goal.returns

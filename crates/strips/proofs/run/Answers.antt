@@ -1,4 +1,3 @@
-use Prim.Native.Nat.{◌-◌}
 use mathlib.Core.Path.{refl}
 use Rattle.pixels.specs.Row.{store_tab}
 use Rattle.strips.proofs.Cases.{run_cases}
