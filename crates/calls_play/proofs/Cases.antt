@@ -1,13 +1,13 @@
 -- The play of one entry, and of the record at the front of a log, for `search`.
 use Prim.Native.Nat.{ℕ}
-use mathlib.Core.Path.{◌≡◌, refl, sym, ap, ◌∙◌}
+use mathlib.Core.Path.{◌≡◌, sym, ap, ◌∙◌}
 use mathlib.Core.List.{List}
 use lib.ListN.{drop}
 use Rattle.model.specs.declared.Ppu.{Ppu}
 use Rattle.model.specs.declared.Access.{Access}
 use Rattle.model.specs.declared.Entry.{Entry}
 use Rattle.model.specs.declared.Entry.TheVariants.{Read, Write, Run, Refused}
-use Rattle.model.specs.Unit.{Memory, access_memory, line_memory, State, state}
+use Rattle.model.specs.Unit.{access_memory, line_memory, State, state}
 use Rattle.model.specs.Calls.{own, read_call, write_call, run_call, Outcome, refused_access, access_outcome, line_outcome, on_lent}
 use Rattle.model.specs.Log.{records_of, entry_of, play_entry, play_call}
 use Rattle.model.specs.Theorems.{restores}

@@ -1,19 +1,17 @@
 -- The ways of each function, for `search`.
-use Prim.Native.Nat.{ℕ, ◌+◌, ◌*◌, ◌%◌, ◌<◌, ◌≤◌}
+use Prim.Native.Nat.{ℕ, ◌%◌, ◌<◌, ◌≤◌}
 use mathlib.Core.Path.{◌≡◌, sym, ap, ◌∙◌}
 use mathlib.Core.Bool.{Bool, true, false, ◌&&◌}
 use mathlib.Core.List.{List}
-use native.Mathlib.Omega.{arith}
 use lib.Dec.{eqb, ltb}
 use lib.ListN.{length}
 use borrow.Author.Tests.{eq-eqb, ne_eqb, lt-leb, le-leb}
 use Rattle.model.specs.declared.Board.{Board}
 use Rattle.model.specs.declared.Ppu.{Ppu}
-use Rattle.model.specs.declared.Answer.{Answer}
 use Rattle.model.specs.declared.Access.{Access}
-use Rattle.model.specs.Unit.{nametable_length, fresh, zero_unit, is_well_formed, is_drawing}
+use Rattle.model.specs.Unit.{nametable_length, zero_unit, is_well_formed, is_drawing}
 use Rattle.model.specs.Record.{unit_of, record_of, bytes_ok, record_ok}
-use Rattle.model.specs.Calls.{refused_access, unmade, load_call, packed, saved_bytes, access_sizes, dma_sizes, address_ok, blocked_read, order, access_refusal, plain_refusal}
+use Rattle.model.specs.Calls.{refused_access, unmade, load_call, saved_bytes, access_sizes, dma_sizes, address_ok, blocked_read, order, access_refusal, plain_refusal}
 
 pub unmade_1 : (n : ℕ) (u : Ppu) (r : Access) → u ≡ zero_unit → r ≡ refused_access n u → r ≡ unmade n
 unmade_1 n u r f g = g ∙ ap (refused_access n) f

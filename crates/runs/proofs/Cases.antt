@@ -12,7 +12,7 @@ use Rattle.model.specs.declared.Access.{Access}
 use Rattle.model.specs.Colours.{numbers_of}
 use Rattle.model.specs.Unit.{State, state, line_memory, nametable_length, bit, is_rendering, is_well_formed, is_drawing}
 use Rattle.model.specs.Line.{one_line, lines_run}
-use Rattle.model.specs.Calls.{access, ran_answer, refused_access, own, Call, run_call, Outcome, outcome, outcome_on, line_outcome, access_sizes, line_sizes, order, plain_refusal, refusal_of, run_done, done, on_lent}
+use Rattle.model.specs.Calls.{access, ran_answer, refused_access, own, Call, run_call, outcome, outcome_on, line_outcome, access_sizes, line_sizes, order, plain_refusal, refusal_of, run_done, done, on_lent}
 use Rattle.model.proofs.Accepted.{is_unasked, is_refused, is_done, order_formed, order_sized, and_none}
 use Rattle.model.proofs.Tests.{and_both, all5}
 use Rattle.model.proofs.Colours.{sized_bytes}

@@ -10,7 +10,7 @@ use lib.Dec.{ltb, eqb}
 use lib.ListN.{length, get_or, get_or-eq_default}
 use borrow.Author.Tests.{lt-ltb, le-ltb, ltb-true, ltb-false}
 use Rattle.model.specs.declared.Ppu.{Ppu}
-use Rattle.model.specs.Unit.{nametable_length, unit, with_scanline, State, state, line_memory, last_line, bit, is_rendering, is_well_formed}
+use Rattle.model.specs.Unit.{nametable_length, with_scanline, State, state, line_memory, last_line, bit, is_rendering, is_well_formed}
 use Rattle.model.specs.Address.{table_of}
 use Rattle.model.specs.Background.{background_at}
 use Rattle.model.specs.Sprites.{overflows}

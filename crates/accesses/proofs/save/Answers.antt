@@ -1,5 +1,4 @@
 use Rattle.accesses.proofs.Cases.{save_cases}
-use Rattle.record.proofs.put.Reads as put_reads
 use Rattle.accesses.proofs.save.Goals as goal
 
 pub returns-then-saved-ne16 : goal.returns-then-saved-ne16

@@ -1,4 +1,3 @@
-use Prim.Native.Nat.{◌-◌}
 use Rattle.answers.proofs.Text.{put_cases}
 use Rattle.answers.proofs.put.Goals as goal
 

@@ -1,5 +1,4 @@
 use Rattle.answers.proofs.Text.{refused_cases}
-use Rattle.answers.proofs.put.Reads as put_reads
 use Rattle.answers.proofs.put_refused.Goals as goal
 
 pub returns : goal.returns

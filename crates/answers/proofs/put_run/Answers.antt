@@ -1,5 +1,4 @@
 use Rattle.answers.proofs.Text.{run_cases}
-use Rattle.answers.proofs.put.Reads as put_reads
 use Rattle.answers.proofs.put_run.Goals as goal
 
 pub returns-then-nmi : goal.returns-then-nmi

@@ -13,7 +13,7 @@ pub read_unit-u-requires : goal.read_unit-u-requires
 read_unit-u-requires c = search form_long
 
 pub returns-then-board : goal.returns-then-board
-returns-then-board c =     unit_run_6 _ _ _ _ _ _ _ _ _ _ _ c.if-reason-gt2.false _ c.record_refusal-n.ensures c.if-n-ne0.false _ c.read_unit-u.ensures c.if-board.true refl
+returns-then-board c = unit_run_6 _ _ _ _ _ _ _ _ _ _ _ c.if-reason-gt2.false _ c.record_refusal-n.ensures c.if-n-ne0.false _ c.read_unit-u.ensures c.if-board.true refl
 
 pub returns : goal.returns
 returns c = search unit_run_2

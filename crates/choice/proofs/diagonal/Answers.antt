@@ -1,15 +1,18 @@
-use Rattle.choice.proofs.Overflow.{diagonal_loop}
-use native.Mathlib.Omega.{arith}
+-- Answered term by term, and not by a search: on code that is wrong here a search for these goals takes more memory than there is.
+use Rattle.choice.proofs.Overflow.{diagonal_start, diagonal_more, set_looked, set_over, end_looked, end_over}
 use Rattle.choice.proofs.diagonal.Goals as goal
 
 pub loop-i-init : goal.loop-i-init
-loop-i-init c = search (diagonal_loop, arith)
+loop-i-init c = diagonal_start _ _ _ _ c.requires.1
 
 pub returns-then-y-gt0 : goal.returns-then-y-gt0
-returns-then-y-gt0 c = search (diagonal_loop, arith)
+returns-then-y-gt0 c =
+    (set_looked _ _ _ _ _ c.loop-i.invariant _ _ c.height-h.ensures.0 c.tried_one-y.ensures.0 c.loop-i-test.true c.if-y-gt0.true,
+    set_over _ _ _ _ _ c.loop-i.invariant _ _ c.height-h.ensures.0 c.tried_one-y.ensures.0 c.loop-i-test.true c.if-y-gt0.true)
 
 pub loop-i-preserved : goal.loop-i-preserved
-loop-i-preserved c = search (diagonal_loop, arith)
+loop-i-preserved c =
+    diagonal_more _ _ _ _ _ c.loop-i.invariant _ _ c.height-h.ensures.0 c.tried_one-y.ensures.0 c.loop-i-test.true c.if-y-gt0.false _ c.next_byte-b.ensures.0 c.next_byte-b.ensures.1
 
 pub returns : goal.returns
-returns c = search (diagonal_loop, arith)
+returns c = (end_looked _ _ _ _ _ c.loop-i.invariant c.loop-i-test.false, end_over _ _ _ _ _ c.loop-i.invariant c.loop-i-test.false)

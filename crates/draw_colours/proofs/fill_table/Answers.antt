@@ -1,4 +1,3 @@
-use Prim.Native.Nat.{◌-◌}
 use Rattle.draw_colours.proofs.Cases.{table_cases}
 use Rattle.draw_colours.proofs.fill_table.Goals as goal
 

@@ -1,4 +1,3 @@
-use Prim.Native.Nat.{◌-◌}
 use Rattle.draw_colours.proofs.Cases.{look_cases}
 use Rattle.draw_colours.proofs.look_up.Goals as goal
 

@@ -1,4 +1,3 @@
-use Prim.Native.Nat.{◌-◌}
 use borrow.Author.Rules.{rules}
 use Rattle.logs.proofs.Playing.{keep_cases}
 use Rattle.logs.proofs.keep.Goals as goal

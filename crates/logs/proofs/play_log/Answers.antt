@@ -1,4 +1,3 @@
-use Prim.Native.Nat.{◌-◌}
 use Rattle.logs.proofs.Playing.{play_cases}
 use Rattle.logs.proofs.play_log.Goals as goal
 

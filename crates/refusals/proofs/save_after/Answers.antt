@@ -1,5 +1,4 @@
 use Rattle.refusals.proofs.Cases.{after_cases}
-use Rattle.record.proofs.put.Reads as put_reads
 use Rattle.refusals.proofs.save_after.Goals as goal
 
 pub returns-then-answer-eq0 : goal.returns-then-answer-eq0

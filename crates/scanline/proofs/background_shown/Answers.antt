@@ -1,5 +1,4 @@
 use Rattle.scanline.proofs.Cases.{shown_cases}
-use Rattle.pixels.proofs.clear.Reads as clear_reads
 use Rattle.scanline.proofs.background_shown.Goals as goal
 
 pub returns-then-bit : goal.returns-then-bit

@@ -1,4 +1,3 @@
-use Prim.Native.Nat.{◌-◌}
 use Rattle.scanline.proofs.Cases.{run_cases, run_drawn, run_table, on_room, on_nearer, picture_pixels, v_small, x_small, draws_not, drawn_low, drawn_shown, drawn_seen}
 use borrow.Author.Rules.{rules}
 use Rattle.scanline.proofs.run.Goals as goal

@@ -1,6 +1,5 @@
 use Rattle.scanline.proofs.Cases.{buffers_cases, undrawn_off}
 use borrow.Author.Rules.{rules}
-use Rattle.pixels.proofs.clear.Reads as clear_reads
 use Rattle.scanline.proofs.undrawn_buffers.Goals as goal
 
 pub backdrop-requires : goal.backdrop-requires

@@ -1,4 +1,3 @@
-use Prim.Native.Nat.{◌-◌}
 use Rattle.text.proofs.Loops.{copied_loop}
 use Rattle.text.proofs.copy.Goals as goal
 

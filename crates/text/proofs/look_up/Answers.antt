@@ -1,4 +1,3 @@
-use Prim.Native.Nat.{◌-◌}
 use Rattle.text.proofs.Loops.{looked_loop}
 use Rattle.text.proofs.look_up.Goals as goal
 

@@ -1,4 +1,3 @@
-use Prim.Native.Nat.{◌-◌}
 use Rattle.text.proofs.Loops.{spacing_loop}
 use Rattle.text.proofs.put_spaces.Goals as goal
 

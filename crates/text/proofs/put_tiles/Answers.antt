@@ -1,4 +1,3 @@
-use Prim.Native.Nat.{◌-◌}
 use Rattle.text.proofs.Loops.{tiling_loop}
 use Rattle.text.proofs.put_tiles.Goals as goal
 
