@@ -1,5 +1,5 @@
 -- Document 02, request 6: two units share the pattern tables and both line buffers. The machine, one unit's call, and calls by number.
-use Rattle.std.specs.Prelude.{Bool, cond, ◌&&◌, List, [], ℕ, zero, suc, ◌%◌, ltb, eqb, replicate}
+use Rattle.std.specs.Prelude.{Bool, true, false, cond, ◌&&◌, List, [], ℕ, zero, suc, ◌%◌, ltb, eqb, replicate}
 use Rattle.model.specs.declared.Ppu.{Ppu}
 use Rattle.model.specs.declared.Answer.{Answer}
 use Rattle.model.specs.declared.Access.{Access}
