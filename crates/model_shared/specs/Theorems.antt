@@ -78,7 +78,7 @@ pub record Unseen {A U : Type 0} (p : Units A U) : Type 0 where
       → (shown_to p k ea m ≡ shown_to p k eb m') × (own_of k (after_all p ea m) ≡ own_of k (after_all p eb m'))
 
 -- DEMAND 3 for each unit by itself, the other's calls taken out, wherever they stand, in the reload too: after it unit and memory are equal, and all that is
--- shown of every further sequence, by `whatever-the-other` also of one that begins on any other memory, equal on both sides; and none of the seven steps
+-- shown of every further sequence, by `whatever_the_other` also of one that begins on any other memory, equal on both sides; and none of the seven steps
 -- can be spared. The same of the exported calls, on records
 pub record SharedReload : Type 0 where
   pub reloads : (k : ℕ) → k < 2 → (m : Machine Ppu) (ea eb : List Entry) (la lb : List Call) (pa pb : Places) (b : Bytes)

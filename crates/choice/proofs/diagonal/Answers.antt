@@ -6,9 +6,10 @@ pub loop-i-init : goal.loop-i-init
 loop-i-init c = diagonal_start _ _ _ _ c.requires.1
 
 pub returns-then-y-gt0 : goal.returns-then-y-gt0
-returns-then-y-gt0 c =
-    (set_looked _ _ _ _ _ c.loop-i.invariant _ _ c.height-h.ensures.0 c.tried_one-y.ensures.0 c.loop-i-test.true c.if-y-gt0.true,
-    set_over _ _ _ _ _ c.loop-i.invariant _ _ c.height-h.ensures.0 c.tried_one-y.ensures.0 c.loop-i-test.true c.if-y-gt0.true)
+returns-then-y-gt0 c = (
+  set_looked _ _ _ _ _ c.loop-i.invariant _ _ c.height-h.ensures.0 c.tried_one-y.ensures.0 c.loop-i-test.true c.if-y-gt0.true,
+  set_over _ _ _ _ _ c.loop-i.invariant _ _ c.height-h.ensures.0 c.tried_one-y.ensures.0 c.loop-i-test.true c.if-y-gt0.true,
+)
 
 pub loop-i-preserved : goal.loop-i-preserved
 loop-i-preserved c =
