@@ -214,6 +214,7 @@ fn list_places(d: &[u8], from: u8, h: u8, list: &mut [u8])
 }
 
 // The first eight in OAM order are taken.
+#[tactic(auto, using(crate::proofs::Cases::eight_cases))]
 fn at_most_eight(n: u8) -> usize
     ensures { (result ≡ cond (ltb 8 n) 8 n) × (result ≤ 8) }
 {

@@ -32,6 +32,7 @@ fn raised(n: u16) -> u32
 }
 
 // The palette cell of a line that is off: cell 0, or with backdrop override the one at v.
+#[tactic(auto, using(crate::proofs::Cases::cell_cases))]
 fn backdrop_cell(u: Ppu) -> usize
     requires { is_rendering u ≡ false }
     ensures { (result ≡ shown_cell u 0) × (result < 32) }

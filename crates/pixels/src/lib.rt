@@ -35,6 +35,7 @@ pub fn put_tile(row: &mut [u8], at: usize, low: u8, high: u8, palette: u8)
 }
 
 // The old pixel if it is opaque, else the new one.
+#[tactic(auto, using(crate::proofs::Cases::over_cases))]
 fn over_one(old: u8, new: u8) -> u8
     ensures { result ≡ over_one old new }
 {

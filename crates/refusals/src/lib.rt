@@ -119,6 +119,7 @@ fn in_range(address: u16) -> bool
 }
 
 // The number of an access's refusal, 0 where there is none. `blocked`: refused while drawing.
+#[tactic(auto, using(crate::proofs::Cases::refusal_cases))]
 pub fn access_refusal(sized: bool, u: Ppu, address: u16, blocked: bool) -> u8
     ensures { result ≡ access_refusal sized u address blocked }
 {
@@ -188,6 +189,7 @@ pub fn pack(a: Answer) -> u64
 }
 
 // The record after a call: the next unit's where the call is done.
+#[tactic(auto, using(crate::proofs::Cases::after_cases))]
 fn save_after(a: Access, saved: &mut [u8])
     ensures { saved.new ≡ saved_bytes a saved.old }
 {
