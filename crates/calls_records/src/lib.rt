@@ -154,6 +154,7 @@ fn run_record(
 }
 
 // A run, by the unit of a record. The slices are borrowed anew for the same reason.
+#[tactic(auto, using(crate::proofs::Cases::run_cases))]
 pub fn run(
     unit: &mut [u8],
     lines: u16,
