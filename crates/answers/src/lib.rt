@@ -1,5 +1,6 @@
 // What the player prints of a record's answer, stored in an output. Inner functions, not public calls.
 // put, hex_digit, put_read, digit, put_decimal, put_run, put_refused, put_text.
+// The text is made by hand, since what std's `write!` and `Display` write is nothing that a proof can use, and put_text names each byte.
 #![tactic(auto)]
 
 ghost use Rattle.std.specs.Prelude.{◌≡◌, ◌+◌, ◌<◌, ◌≤◌, length};
@@ -14,23 +15,18 @@ fn put(text: &[u8], out: &mut [u8], at: usize) -> usize
     requires { at + length text.now ≤ length out.old }
     ensures { (out.new ≡ sets out.old at text.now) × (result ≡ at + length text.now) }
 {
-    let mut i = 0;
-    while i < text.len() {
-        out[at + i] = text[i];
-        i += 1;
-    }
-    at + i
+    let end = at + text.len();
+    out[at..end].copy_from_slice(text);
+    end
 }
 
 // A capital hex digit.
+#[tactic(auto, unfolding(model::specs::Log::hex_digit))]
 fn hex_digit(n: u8) -> u8
     requires { n < 16 }
     ensures { result ≡ hex_digit n }
 {
-    if n < 10 {
-        return 48 + n;
-    }
-    55 + n
+    if n < 10 { 48 + n } else { 55 + n }
 }
 
 // A read's two hex digits.
@@ -38,10 +34,11 @@ fn put_read(byte: u8, out: &mut [u8], at: usize) -> usize
     requires { at + 15 ≤ length out.old }
     ensures { (out.new ≡ sets out.old at (read_text byte)) × (result ≡ at + length (read_text byte)) }
 {
-    out[at] = hex_digit(byte / 16);
-    out[at + 1] = hex_digit(byte % 16);
-    out[at + 2] = b'\n';
-    at + 3
+    put(
+        &[hex_digit(byte / 16), hex_digit(byte % 16), b'\n'],
+        out,
+        at,
+    )
 }
 
 // A decimal digit.
@@ -57,19 +54,14 @@ fn put_decimal(n: u16, out: &mut [u8], at: usize) -> usize
     requires { (n < 1000) × (at + 3 ≤ length out.old) }
     ensures { (out.new ≡ sets out.old at (decimal n)) × (result ≡ at + length (decimal n)) × (result ≤ at + 3) }
 {
+    let digits = [digit(n / 100), digit(n / 10 % 10), digit(n % 10)];
     if n < 10 {
-        out[at] = digit(n);
-        return at + 1;
+        put(&digits[2..], out, at)
+    } else if n < 100 {
+        put(&digits[1..], out, at)
+    } else {
+        put(&digits, out, at)
     }
-    if n < 100 {
-        out[at] = digit(n / 10);
-        out[at + 1] = digit(n % 10);
-        return at + 2;
-    }
-    out[at] = digit(n / 100);
-    out[at + 1] = digit(n / 10 % 10);
-    out[at + 2] = digit(n % 10);
-    at + 3
 }
 
 // "line N nmi B"
@@ -80,9 +72,10 @@ fn put_run(line: u16, nmi: bool, out: &mut [u8], at: usize) -> usize
     let a = put(b"line ", out, at);
     let b = put_decimal(line, out, a);
     if nmi {
-        return put(b" nmi 1\n", out, b);
+        put(b" nmi 1\n", out, b)
+    } else {
+        put(b" nmi 0\n", out, b)
     }
-    put(b" nmi 0\n", out, b)
 }
 
 // "refused N"
@@ -100,17 +93,12 @@ pub fn put_text(e: Entry, x: Access, out: &mut [u8], at: usize) -> usize
     requires { Printable e x × (at + 15 ≤ length out.old) }
     ensures { (out.new ≡ sets out.old at (entry_text e x.answer x.unit.scanline)) × (result ≡ at + length (entry_text e x.answer x.unit.scanline)) }
 {
-    let a = x.answer;
-    if a.number != 0 {
-        return put_refused(a.number, out, at);
+    if x.answer.number != 0 {
+        return put_refused(x.answer.number, out, at);
     }
     match e {
-        Entry::Read(_) => put_read(a.byte, out, at),
-        Entry::Run(_) => {
-            let u = x.unit;
-            put_run(u.scanline, a.nmi, out, at)
-        }
-        Entry::Write(_, _) => at,
-        Entry::Refused => at,
+        Entry::Read(_) => put_read(x.answer.byte, out, at),
+        Entry::Run(_) => put_run(x.unit.scanline, x.answer.nmi, out, at),
+        Entry::Write(..) | Entry::Refused => at,
     }
 }

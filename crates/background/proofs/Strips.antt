@@ -5,7 +5,8 @@ use mathlib.Core.List.{List, ◌++◌}
 use mathlib.Core.Logic.{⊎_elim}
 use native.Mathlib.Omega.{arith}
 use native.Mathlib.Nat.{add_assoc, add-zero, add-suc, zero-add, mul_comm}
-use lib.ListN.{length, drop}
+use lib.ListN.{length, take, drop, length-take, length-drop}
+use Rattle.std.proofs.lemmas.List.{get_or-take, get_or-drop}
 use Rattle.model.specs.declared.Wiring.{Wiring}
 use Rattle.model.specs.Unit.{line_length}
 use Rattle.model.specs.Address.{page_at, wiring_number, cell_of}
@@ -13,10 +14,10 @@ use Rattle.model.specs.Scroll.{fine_y, nametable, row, column, turn10, right, ri
 use Rattle.model.specs.Background.{tile_at, attribute_address, attribute_at, low_at, high_at, tile_pixel, background_at}
 use Rattle.model.specs.Line.{tab}
 use Rattle.model.proofs.Scroll.{right_in, lt_or_ge, by_in, by_out}
-use Rattle.model.proofs.Tab.{tab_none, tab_done, tab_cong, get_or_tab}
+use Rattle.model.proofs.Tab.{tab_none, tab_done, tab_ext, length_tab, get_or_tab}
 use Rattle.pixels.specs.Row.{store_tab}
 use Rattle.pixels.proofs.Store.{tile_more}
-use Rattle.strips.specs.Strips.{row_length, strip_of, palette_of, column_pixel, strip_pixel, beside_of, group_start, shifted}
+use Rattle.strips.specs.Strips.{row_length, strip_of, palette_of, column_pixel, strip_pixel, beside_of, group_start}
 
 -- the tile number's address and the attribute byte's: their quarter, and their place in the page
 tile_quarter : (v : ℕ) → (8192 + v % 4096) / 1024 % 4 ≡ nametable v
@@ -200,8 +201,13 @@ from_x w n table v x p =
     let b : (0 + (8 * (v % 4) + x + p)) % 8 ≡ (x + p) % 8 = omega arith in
     rw (a, b, by_more (group_start v) (v % 4) ((x + p) / 8), by_in (group_start v) (v % 4) (start_in v), start_and v)
 
-pub line_is : (w : Wiring) (n table b : List ℕ) (v x : ℕ) → x < 8 → b ≡ tab (background_at w n table (group_start v) 0) row_length
-    → tab (shifted b (8 * (v % 4) + x)) line_length ≡ tab (background_at w n table v x) line_length
-unfolding shifted
-line_is w n table b v x h e =
-    tab_cong _ _ line_length (λ p lt. rw e (get_or_tab (background_at w n table (group_start v) 0) row_length (8 * (v % 4) + x + p) (omega arith) ∙ from_x w n table v x p))
+pub line_is : (w : Wiring) (n table b : List ℕ) (v x k e : ℕ) → x < 8 → b ≡ tab (background_at w n table (group_start v) 0) row_length
+    → k ≡ 8 * (v % 4) + x → e ≡ line_length → take e (drop k b) ≡ tab (background_at w n table v x) line_length
+line_is w n table b v x k e h d i j =
+    let f = background_at w n table (group_start v) 0 in
+    rw (d, i, j)
+    (tab_ext (background_at w n table v x) line_length _ (simp (length-take, length-drop, length_tab f row_length) (omega arith))
+    (λ p lt. get_or-take line_length (drop (8 * (v % 4) + x) (tab f row_length)) p 0 lt
+    ∙ get_or-drop (8 * (v % 4) + x) (tab f row_length) p 0
+    ∙ get_or_tab f row_length (8 * (v % 4) + x + p) (omega arith)
+    ∙ from_x w n table v x p))

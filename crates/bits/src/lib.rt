@@ -1,61 +1,16 @@
-// Shifts and masks whose contracts say / and %, so that no caller divides and no caller's proof meets a mask.
-// wide, wide64: a byte as a wider number.
-// low, low16, low8, low_byte: the low bits of a number. At a literal n the contract computes: low(x, 5) is x % 32.
-// bit, field: one bit of a byte, and n bits of it from bit k.
-// A shift needs no function here: x >> 3 reads as x / 8 by itself.
+// One bit of a byte, some bits of it, and the bytes of a two-byte number, by shifts and masks whose contracts say / and %, so that no caller divides:
+// bit, field, le_bytes.
+// Elsewhere a shift and a mask by numerals need no function: x >> 3 reads as x / 8 by itself, and x & 31 as x % 32 by std's and_numeral.
 #![tactic(auto)]
 
-ghost use Rattle.std.specs.Prelude.{◌≡◌, ◌/◌, ◌%◌, ◌^◌, ◌<◌, eqb};
-
-pub fn wide(b: u8) -> usize
-    ensures { (result ≡ b) × (result < 256) }
-{
-    b as usize
-}
-
-pub fn wide64(b: u8) -> u64
-    ensures { (result ≡ b) × (result < 256) }
-{
-    b as u64
-}
-
-// The low n bits of x.
-pub fn low(x: usize, n: usize) -> usize
-    requires { n < 16 }
-    ensures { result ≡ x % 2 ^ n }
-{
-    x & ((1 << n) - 1)
-}
-
-// The low n bits of an address.
-pub fn low16(x: u16, n: usize) -> u16
-    requires { n < 16 }
-    ensures { result ≡ x % 2 ^ n }
-{
-    x & ((1 << n) - 1)
-}
-
-// The low n bits of a byte.
-pub fn low8(x: u8, n: usize) -> u8
-    requires { n < 8 }
-    ensures { result ≡ x % 2 ^ n }
-{
-    x & ((1 << n) - 1)
-}
-
-// The lowest byte of x.
-pub fn low_byte(x: u64) -> u8
-    ensures { result ≡ x % 256 }
-{
-    (x & 255) as u8
-}
+ghost use Rattle.std.specs.Prelude.{◌≡◌, ◌/◌, ◌%◌, ◌^◌, ◌<◌, eqb, [], ◌∷◌};
 
 // Bit k of a byte is set.
 pub fn bit(b: u8, k: usize) -> bool
     requires { k < 8 }
     ensures { result ≡ eqb (b / 2 ^ k % 2) 1 }
 {
-    low8(b >> k, 1) == 1
+    b >> k & 1 == 1
 }
 
 // n bits of a byte from bit k.
@@ -63,5 +18,12 @@ pub fn field(b: u8, k: usize, n: usize) -> u8
     requires { (k < 8) × (n < 8) }
     ensures { result ≡ b / 2 ^ k % 2 ^ n }
 {
-    low8(b >> k, n)
+    b >> k & ((1 << n) - 1)
+}
+
+// The bytes of n, the low one first. Not to_le_bytes, which divides: nothing that running lines reaches may.
+pub fn le_bytes(n: u16) -> [u8; 2]
+    ensures { result ≡ n % 256 ∷ n / 256 ∷ [] }
+{
+    [(n & 255) as u8, (n >> 8) as u8]
 }

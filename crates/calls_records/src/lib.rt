@@ -1,5 +1,7 @@
 // The calls by the unit of a record, which the exports for C and their play share. Inner functions: what they take is checked as in the calls on a unit.
 // fresh_record, read_record, write_record; run, and within it line_record and run_record; play_entry.
+// Slices and numbers, as the exports for C have them. Each call says load, call and finish anew, here, in calls_shared_records and in ppu: what a closure
+// that holds `&mut` slices leaves of them is not known where it is passed, so one function over a closure proves for slices that are read alone.
 #![tactic(auto)]
 
 ghost use Rattle.std.specs.Prelude.{◌≡◌, ◌≤◌};
@@ -16,19 +18,23 @@ ghost use Rattle.model.specs.Calls.{
 };
 ghost use Rattle.model.specs.Log.{exported_entry};
 
-use model::{Access, Entry};
+use lent::Lent;
+use model::{Access, Entry, Refusal};
 
 // A fresh unit for a record of this length.
+#[tactic(auto, unfolding(model::specs::Calls::fresh_on_record))]
 pub fn fresh_record(saved: &[u8], board: u8) -> Access
     ensures { result ≡ fresh_on_record saved.now board }
 {
     if saved.len() != 16 {
-        return refusals::unmade(2);
+        return refusals::unmade(Refusal::Length as u8);
     }
     accesses::fresh(board)
 }
 
-// A log's read, by the unit of a record.
+// A read, by the unit of a record. Inlined: shared by two exports, it would stay a call in both.
+#[inline(always)]
+#[tactic(auto, unfolding(model::specs::Calls::exported_call, model::specs::Calls::on_record), using(crate::proofs::Cases::refused))]
 pub fn read_record(
     unit: &mut [u8],
     address: u16,
@@ -41,16 +47,17 @@ pub fn read_record(
     ensures { exported result unit.new (access_memory left.now right.now nametables.now oam.now palette.now) ≡
         exported_call (read_call own address) unit.old (access_memory left.now right.now nametables.now oam.now palette.now) }
 {
-    let n = refusals::record_refusal(unit);
-    if n != 0 {
-        return n as u64;
+    match refusals::record(unit) {
+        Ok(u) => {
+            let a = accesses::read(u, address, left, right, nametables, oam, palette);
+            refusals::finish(a, unit)
+        }
+        Err(r) => r as u64,
     }
-    let u = record::read_unit(unit);
-    let a = calls_play::read(u, address, left, right, nametables, oam, palette);
-    refusals::finish(a, unit)
 }
 
 // A write, by the unit of a record.
+#[tactic(auto, unfolding(model::specs::Calls::exported_call, model::specs::Calls::on_record), using(crate::proofs::Cases::refused))]
 pub fn write_record(
     unit: &mut [u8],
     address: u16,
@@ -64,17 +71,18 @@ pub fn write_record(
     ensures { exported result unit.new (access_memory left.new right.new nametables.new oam.new palette.new) ≡
         exported_call (write_call own address byte) unit.old (access_memory left.old right.old nametables.old oam.old palette.old) }
 {
-    let n = refusals::record_refusal(unit);
-    if n != 0 {
-        return n as u64;
+    match refusals::record(unit) {
+        Ok(u) => {
+            let a = accesses::write(u, address, byte, left, right, nametables, oam, palette);
+            refusals::finish(a, unit)
+        }
+        Err(r) => r as u64,
     }
-    let u = record::read_unit(unit);
-    let a = accesses::write(u, address, byte, left, right, nametables, oam, palette);
-    refusals::finish(a, unit)
 }
 
 // A run of one line by a reason that is known, by the unit of a record. Of one that is not drawn the record is written before the buffers: what stays
 // of it is then not written anew.
+#[tactic(auto, unfolding(model::specs::Calls::exported_call, model::specs::Calls::on_record), using(crate::proofs::Cases::line_cases))]
 fn line_record(
     unit: &mut [u8],
     reason: u8,
@@ -90,39 +98,33 @@ fn line_record(
     ensures { exported result unit.new (line_memory left.now right.now nametables.now oam.now palette.now line.new (numbers_of colours.new)) ≡
         exported_call (run_call own reason 1) unit.old (line_memory left.now right.now nametables.now oam.now palette.now line.old (numbers_of colours.old)) }
 {
-    let n = refusals::record_refusal(unit);
-    if n != 0 {
-        return n as u64;
+    let u = match refusals::record(unit) {
+        Ok(u) => u,
+        Err(r) => return r as u64,
+    };
+    let Some(m) = Lent::new(u.board, left, right, nametables, oam, palette) else {
+        return Refusal::Length as u64;
+    };
+    let Some(line) = line.as_mut_array::<256>() else {
+        return Refusal::Length as u64;
+    };
+    let Some(colours) = colours.as_mut_array::<512>() else {
+        return Refusal::Length as u64;
+    };
+    if lines::draws(u) {
+        let a = runs::line_bytes(
+            u, reason, left, right, nametables, oam, palette, line, colours,
+        );
+        return refusals::finish(a, unit);
     }
-    let u = record::read_unit(unit);
-    let board = u.board;
-    let sized = refusals::line_sizes(
-        board,
-        left.len(),
-        right.len(),
-        nametables.len(),
-        oam.len(),
-        palette.len(),
-        line.len(),
-        colours.len(),
-    );
-    if sized {
-        if lines::draws(u) {
-            let a = runs::line_bytes(
-                u, reason, left, right, nametables, oam, palette, line, colours,
-            );
-            return refusals::finish(a, unit);
-        }
-        let a = runs::undrawn_line(u, reason);
-        let packed = refusals::finish(a, unit);
-        scanline::undrawn_buffers(u, palette, line, colours);
-        return packed;
-    }
-    2 // a length
+    let a = runs::undrawn_line(u, reason);
+    let packed = refusals::finish(a, unit);
+    scanline::undrawn_buffers(u, m.palette, line, colours);
+    packed
 }
 
-// A run by a reason that is known, by the unit of a record. The slices are borrowed anew first of all: so they need not go through memory, and two
-// exports share the run at no cost.
+// A run by a reason that is known, by the unit of a record.
+#[tactic(auto, unfolding(model::specs::Calls::exported_call, model::specs::Calls::on_record), using(crate::proofs::Cases::refused))]
 fn run_record(
     unit: &mut [u8],
     lines: u16,
@@ -139,22 +141,19 @@ fn run_record(
     ensures { exported result unit.new (line_memory left.now right.now nametables.now oam.now palette.now line.new (numbers_of colours.new)) ≡
         exported_call (run_call own reason lines) unit.old (line_memory left.now right.now nametables.now oam.now palette.now line.old (numbers_of colours.old)) }
 {
-    let l = &*left;
-    let r = &*right;
-    let t = &*nametables;
-    let o = &*oam;
-    let p = &*palette;
-    let n = refusals::record_refusal(unit);
-    if n != 0 {
-        return n as u64;
+    match refusals::record(unit) {
+        Ok(u) => {
+            let a = runs::run_bytes(
+                u, lines, reason, left, right, nametables, oam, palette, line, colours,
+            );
+            refusals::finish(a, unit)
+        }
+        Err(r) => r as u64,
     }
-    let u = record::read_unit(unit);
-    let a = runs::run_bytes(u, lines, reason, l, r, t, o, p, line, colours);
-    refusals::finish(a, unit)
 }
 
-// A run, by the unit of a record. The slices are borrowed anew for the same reason.
-#[tactic(auto, using(crate::proofs::Cases::run_cases))]
+// A run, by the unit of a record.
+#[tactic(auto, using(model::proofs::Accepted::exported_unasked))]
 pub fn run(
     unit: &mut [u8],
     lines: u16,
@@ -170,21 +169,21 @@ pub fn run(
     ensures { exported result unit.new (line_memory left.now right.now nametables.now oam.now palette.now line.new (numbers_of colours.new)) ≡
         exported_call (run_call own reason lines) unit.old (line_memory left.now right.now nametables.now oam.now palette.now line.old (numbers_of colours.old)) }
 {
-    let l = &*left;
-    let r = &*right;
-    let t = &*nametables;
-    let o = &*oam;
-    let p = &*palette;
     if 2 < reason {
-        return 5;
+        return Refusal::Request as u64;
     }
     if lines == 1 {
-        return line_record(unit, reason, l, r, t, o, p, line, colours);
+        return line_record(
+            unit, reason, left, right, nametables, oam, palette, line, colours,
+        );
     }
-    run_record(unit, lines, reason, l, r, t, o, p, line, colours)
+    run_record(
+        unit, lines, reason, left, right, nametables, oam, palette, line, colours,
+    )
 }
 
 // An entry's call, by the unit of a record.
+#[tactic(auto, unfolding(model::specs::Log::exported_entry), using(model::proofs::Calls::exported_frame))]
 pub fn play_entry(
     e: Entry,
     unit: &mut [u8],
@@ -207,6 +206,6 @@ pub fn play_entry(
         Entry::Run(n) => run_record(
             unit, n, 0, left, right, nametables, oam, palette, line, colours,
         ),
-        Entry::Refused => 5,
+        Entry::Refused => Refusal::Request as u64,
     }
 }

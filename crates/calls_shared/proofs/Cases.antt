@@ -1,43 +1,24 @@
--- The ways of each call, for `search`.
+-- A call by number, for each number.
 use Prim.Native.Nat.{ℕ, ◌≤◌}
-use mathlib.Core.Path.{◌≡◌, ap, ◌∙◌}
-use mathlib.Core.List.{List}
+use mathlib.Core.Path.{◌≡◌, refl}
 use native.Mathlib.Omega.{arith}
 use borrow.Author.Tests.{le-ltb}
 use Rattle.model.specs.declared.Ppu.{Ppu}
-use Rattle.model.specs.declared.Answer.{Answer}
-use Rattle.model.specs.declared.Access.{Access}
-use Rattle.model.specs.Unit.{state, line_memory}
-use Rattle.model.specs.Calls.{refusal, refused_access, Call, Outcome, outcome_on}
-use Rattle.model_shared.specs.Shared.{unit_call, owned, machine, turn, left_by, shared_call}
-use Rattle.calls_shared.specs.declared.Shared.{Shared}
+use Rattle.model.specs.Unit.{state}
+use Rattle.model.specs.Calls.{refusal, Call, Outcome}
+use Rattle.model_shared.specs.Shared.{Machine, memory_of, left_by, unit_call, turn, shared_call}
 
--- what a call hands back
-pub neither_1 : (a : Access) (u : Ppu) (x : Answer) → a ≡ refused_access 7 u → x ≡ a.answer → x ≡ refusal 7
-neither_1 a u x e f = f ∙ ap (λ (y : Access). y.answer) e
-
-pub neither_2 : (a : Access) (u x : Ppu) → a ≡ refused_access 7 u → x ≡ a.unit → x ≡ u
-neither_2 a u x e f = f ∙ ap (λ (y : Access). y.unit) e
-
--- BY NUMBER, whatever the call is lent
-module _ (c : Call) (k : ℕ) (u v : Ppu) (l r n n' o o' p p' b f : List ℕ) (z : Shared) where
-  pub by_0 : (a : Access) (l₁ r₁ n₁ o₁ p₁ b₁ f₁ : List ℕ) → k ≡ 0 → outcome_on a (line_memory l₁ r₁ n₁ o₁ p₁ b₁ f₁) ≡ unit_call c (state u (line_memory l r n o p b f))
-      → z.answer ≡ a.answer → z.first ≡ a.unit → z.second ≡ v
-      → turn z.answer (machine (owned z.first n₁ o₁ p₁) (owned z.second n' o' p') l₁ r₁ b₁ f₁) ≡ shared_call k c (machine (owned u n o p) (owned v n' o' p') l r b f)
+module _ (k : ℕ) (c : Call) (m : Machine Ppu) where
+  pub by_0 : k ≡ 0 → shared_call k c m ≡ (let t : Outcome = unit_call c (state m.first.unit (memory_of 0 m)) in turn t.answer (left_by 0 t.after.unit t.after.memory m))
   unfolding shared_call
-  by_0 a l₁ r₁ n₁ o₁ p₁ b₁ f₁ h e x y q =
-      rw (h, x, y, q) (ap (λ (t : Outcome). turn t.answer (left_by 0 t.after.unit t.after.memory (machine (owned u n o p) (owned v n' o' p') l r b f))) e)
+  by_0 h = rw h refl
 
-  pub by_1 : (a : Access) (l₁ r₁ n₁ o₁ p₁ b₁ f₁ : List ℕ) → k ≡ 1 → outcome_on a (line_memory l₁ r₁ n₁ o₁ p₁ b₁ f₁) ≡ unit_call c (state v (line_memory l r n' o' p' b f))
-      → z.answer ≡ a.answer → z.first ≡ u → z.second ≡ a.unit
-      → turn z.answer (machine (owned z.first n o p) (owned z.second n₁ o₁ p₁) l₁ r₁ b₁ f₁) ≡ shared_call k c (machine (owned u n o p) (owned v n' o' p') l r b f)
+  pub by_1 : k ≡ 1 → shared_call k c m ≡ (let t : Outcome = unit_call c (state m.second.unit (memory_of 1 m)) in turn t.answer (left_by 1 t.after.unit t.after.memory m))
   unfolding shared_call
-  by_1 a l₁ r₁ n₁ o₁ p₁ b₁ f₁ h e x y q =
-      rw (h, x, y, q) (ap (λ (t : Outcome). turn t.answer (left_by 1 t.after.unit t.after.memory (machine (owned u n o p) (owned v n' o' p') l r b f))) e)
+  by_1 h = rw h refl
 
-  pub by_7 : (k ≡ 0 → ⊥) → (k ≡ 1 → ⊥) → z.answer ≡ refusal 7 → z.first ≡ u → z.second ≡ v
-      → turn z.answer (machine (owned z.first n o p) (owned z.second n' o' p') l r b f) ≡ shared_call k c (machine (owned u n o p) (owned v n' o' p') l r b f)
+  pub by_7 : (k ≡ 0 → ⊥) → (k ≡ 1 → ⊥) → shared_call k c m ≡ turn (refusal 7) m
   unfolding shared_call
-  by_7 h i x y q = let ge : 2 ≤ k = omega (arith, h, i) in rw (le-ltb k 2 ge, x, y, q)
+  by_7 h i = let ge : 2 ≤ k = omega (arith, h, i) in rw (le-ltb k 2 ge) refl
 
 pub ruleset number_cases = (by_0, by_1, by_7)

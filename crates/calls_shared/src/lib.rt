@@ -14,7 +14,7 @@ ghost use Rattle.model_shared.specs.Shared.{
   run_machine,
 };
 
-use model::{Access, Answer, Ppu};
+use model::{Access, Answer, Ppu, Refusal};
 
 // What a call by number hands back: its answer, and both units.
 #[derive(Clone, Copy)]
@@ -28,11 +28,9 @@ pub struct Shared {
 fn first(a: Access, unit1: Ppu) -> Shared
     ensures { (result.answer ≡ a.answer) × (result.first ≡ a.unit) × (result.second ≡ unit1) }
 {
-    let answer = a.answer;
-    let u = a.unit;
     Shared {
-        answer: answer,
-        first: u,
+        answer: a.answer,
+        first: a.unit,
         second: unit1,
     }
 }
@@ -40,23 +38,21 @@ fn first(a: Access, unit1: Ppu) -> Shared
 fn second(unit0: Ppu, a: Access) -> Shared
     ensures { (result.answer ≡ a.answer) × (result.first ≡ unit0) × (result.second ≡ a.unit) }
 {
-    let answer = a.answer;
-    let u = a.unit;
     Shared {
-        answer: answer,
+        answer: a.answer,
         first: unit0,
-        second: u,
+        second: a.unit,
     }
 }
 
 fn neither(unit0: Ppu, unit1: Ppu) -> Shared
     ensures { (result.answer ≡ refusal 7) × (result.first ≡ unit0) × (result.second ≡ unit1) }
 {
-    let a = unit::refused(7, unit0);
-    first(a, unit1)
+    first(unit::refused(Refusal::Which as u8, unit0), unit1)
 }
 
 // A read by unit 0 or 1.
+#[tactic(auto, using(crate::proofs::Cases::number_cases))]
 pub fn shared_read(
     which: u8,
     unit0: Ppu,
@@ -74,18 +70,21 @@ pub fn shared_read(
     ensures { turn result.answer (access_machine result.first result.second left.now right.now nametables0.now nametables1.now oam0.now oam1.now palette0.now palette1.now) ≡
         shared_call which (read_call own address) (access_machine unit0 unit1 left.now right.now nametables0.now nametables1.now oam0.now oam1.now palette0.now palette1.now) }
 {
+    let (unit, nametables, oam, palette) = match which {
+        0 => (unit0, nametables0, oam0, palette0),
+        1 => (unit1, nametables1, oam1, palette1),
+        _ => return neither(unit0, unit1),
+    };
+    let a = calls_shared_unit::read(unit, address, left, right, nametables, oam, palette);
     if which == 0 {
-        let a = calls_shared_unit::read(unit0, address, left, right, nametables0, oam0, palette0);
-        return first(a, unit1);
+        first(a, unit1)
+    } else {
+        second(unit0, a)
     }
-    if which == 1 {
-        let a = calls_shared_unit::read(unit1, address, left, right, nametables1, oam1, palette1);
-        return second(unit0, a);
-    }
-    neither(unit0, unit1)
 }
 
 // A write by unit 0 or 1.
+#[tactic(auto, using(crate::proofs::Cases::number_cases))]
 pub fn shared_write(
     which: u8,
     unit0: Ppu,
@@ -104,36 +103,40 @@ pub fn shared_write(
     ensures { turn result.answer (access_machine result.first result.second left.now right.now nametables0.new nametables1.new oam0.new oam1.new palette0.new palette1.new) ≡
         shared_call which (write_call own address byte) (access_machine unit0 unit1 left.now right.now nametables0.old nametables1.old oam0.old oam1.old palette0.old palette1.old) }
 {
-    if which == 0 {
-        let a = calls_shared_unit::write(
-            unit0,
-            address,
-            byte,
-            left,
-            right,
-            nametables0,
-            oam0,
-            palette0,
-        );
-        return first(a, unit1);
+    // one call for each unit: the choice of one of two `&mut` is not covered by the proof of borrows
+    match which {
+        0 => {
+            let a = calls_shared_unit::write(
+                unit0,
+                address,
+                byte,
+                left,
+                right,
+                nametables0,
+                oam0,
+                palette0,
+            );
+            first(a, unit1)
+        }
+        1 => {
+            let a = calls_shared_unit::write(
+                unit1,
+                address,
+                byte,
+                left,
+                right,
+                nametables1,
+                oam1,
+                palette1,
+            );
+            second(unit0, a)
+        }
+        _ => neither(unit0, unit1),
     }
-    if which == 1 {
-        let a = calls_shared_unit::write(
-            unit1,
-            address,
-            byte,
-            left,
-            right,
-            nametables1,
-            oam1,
-            palette1,
-        );
-        return second(unit0, a);
-    }
-    neither(unit0, unit1)
 }
 
 // Sprite DMA by unit 0 or 1.
+#[tactic(auto, using(crate::proofs::Cases::number_cases))]
 pub fn shared_dma(
     which: u8,
     unit0: Ppu,
@@ -145,18 +148,16 @@ pub fn shared_dma(
     ensures { turn result.answer (dma_machine result.first result.second oam0.new oam1.new) ≡
         shared_call which (dma_call own page.now) (dma_machine unit0 unit1 oam0.old oam1.old) }
 {
-    if which == 0 {
-        let a = calls_shared_unit::dma(unit0, oam0, page);
-        return first(a, unit1);
+    // one call for each unit, as in shared_write
+    match which {
+        0 => first(calls_shared_unit::dma(unit0, oam0, page), unit1),
+        1 => second(unit0, calls_shared_unit::dma(unit1, oam1, page)),
+        _ => neither(unit0, unit1),
     }
-    if which == 1 {
-        let a = calls_shared_unit::dma(unit1, oam1, page);
-        return second(unit0, a);
-    }
-    neither(unit0, unit1)
 }
 
 // A run by unit 0 or 1. One with none of lines 0 to 239 in it fills both line buffers with zeros.
+#[tactic(auto, using(crate::proofs::Cases::number_cases))]
 pub fn shared_run(
     which: u8,
     unit0: Ppu,
@@ -177,35 +178,17 @@ pub fn shared_run(
     ensures { turn result.answer (run_machine result.first result.second left.now right.now nametables0.now nametables1.now oam0.now oam1.now palette0.now palette1.now line.new colours.new) ≡
         shared_call which (run_call own reason lines) (run_machine unit0 unit1 left.now right.now nametables0.now nametables1.now oam0.now oam1.now palette0.now palette1.now line.old colours.old) }
 {
+    let (unit, nametables, oam, palette) = match which {
+        0 => (unit0, nametables0, oam0, palette0),
+        1 => (unit1, nametables1, oam1, palette1),
+        _ => return neither(unit0, unit1),
+    };
+    let a = calls_shared_unit::run(
+        unit, lines, reason, left, right, nametables, oam, palette, line, colours,
+    );
     if which == 0 {
-        let a = calls_shared_unit::run(
-            unit0,
-            lines,
-            reason,
-            left,
-            right,
-            nametables0,
-            oam0,
-            palette0,
-            line,
-            colours,
-        );
-        return first(a, unit1);
+        first(a, unit1)
+    } else {
+        second(unit0, a)
     }
-    if which == 1 {
-        let a = calls_shared_unit::run(
-            unit1,
-            lines,
-            reason,
-            left,
-            right,
-            nametables1, // its own
-            oam1,
-            palette1,
-            line,
-            colours,
-        );
-        return second(unit0, a);
-    }
-    neither(unit0, unit1)
 }

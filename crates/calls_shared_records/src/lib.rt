@@ -1,6 +1,5 @@
 // One of two units' calls by the unit of a record, which the exports by number share for both. Inner functions.
-// read_record, write_record, dma_record, run_record. The slices are borrowed anew first of all: so they need not go through memory where the branch of a
-// number calls.
+// read_record, write_record, dma_record, run_record.
 #![tactic(auto)]
 
 ghost use Rattle.std.specs.Prelude.{◌≡◌};
@@ -9,7 +8,10 @@ ghost use Rattle.model.specs.Colours.{numbers_of};
 ghost use Rattle.model.specs.Calls.{exported, read_call, write_call, dma_call, run_call, own};
 ghost use Rattle.model_shared.specs.Shared.{unit_export};
 
+use model::Refusal;
+
 // One unit's read, by the unit of a record.
+#[tactic(auto, unfolding(model_shared::specs::Shared::unit_export, model_shared::specs::Shared::unit_on_record), using(calls_records::proofs::Cases::refused))]
 pub fn read_record(
     unit: &mut [u8],
     address: u16,
@@ -22,21 +24,17 @@ pub fn read_record(
     ensures { exported result unit.new (access_memory left.now right.now nametables.now oam.now palette.now) ≡
         unit_export (read_call own address) unit.old (access_memory left.now right.now nametables.now oam.now palette.now) }
 {
-    let l = &*left;
-    let r = &*right;
-    let t = &*nametables;
-    let o = &*oam;
-    let p = &*palette;
-    let n = refusals::record_refusal(unit);
-    if n != 0 {
-        return n as u64;
+    match refusals::record(unit) {
+        Ok(u) => {
+            let a = calls_shared_unit::read(u, address, left, right, nametables, oam, palette);
+            refusals::finish(a, unit)
+        }
+        Err(r) => r as u64,
     }
-    let u = record::read_unit(unit);
-    let a = calls_shared_unit::read(u, address, l, r, t, o, p);
-    refusals::finish(a, unit)
 }
 
 // One unit's write, by the unit of a record.
+#[tactic(auto, unfolding(model_shared::specs::Shared::unit_export, model_shared::specs::Shared::unit_on_record), using(calls_records::proofs::Cases::refused))]
 pub fn write_record(
     unit: &mut [u8],
     address: u16,
@@ -50,37 +48,34 @@ pub fn write_record(
     ensures { exported result unit.new (access_memory left.now right.now nametables.new oam.new palette.new) ≡
         unit_export (write_call own address byte) unit.old (access_memory left.now right.now nametables.old oam.old palette.old) }
 {
-    let l = &*left;
-    let r = &*right;
-    let t = &mut *nametables;
-    let o = &mut *oam;
-    let p = &mut *palette;
-    let n = refusals::record_refusal(unit);
-    if n != 0 {
-        return n as u64;
+    match refusals::record(unit) {
+        Ok(u) => {
+            let a = calls_shared_unit::write(
+                u, address, byte, left, right, nametables, oam, palette,
+            );
+            refusals::finish(a, unit)
+        }
+        Err(r) => r as u64,
     }
-    let u = record::read_unit(unit);
-    let a = calls_shared_unit::write(u, address, byte, l, r, t, o, p);
-    refusals::finish(a, unit)
 }
 
 // One unit's sprite DMA, by the unit of a record.
+#[tactic(auto, unfolding(model_shared::specs::Shared::unit_export, model_shared::specs::Shared::unit_on_record), using(calls_records::proofs::Cases::refused))]
 pub fn dma_record(unit: &mut [u8], oam: &mut [u8], page: &[u8]) -> u64
     ensures { exported result unit.new (dma_memory oam.new) ≡
         unit_export (dma_call own page.now) unit.old (dma_memory oam.old) }
 {
-    let o = &mut *oam;
-    let p = &*page;
-    let n = refusals::record_refusal(unit);
-    if n != 0 {
-        return n as u64;
+    match refusals::record(unit) {
+        Ok(u) => {
+            let a = calls_shared_unit::dma(u, oam, page);
+            refusals::finish(a, unit)
+        }
+        Err(r) => r as u64,
     }
-    let u = record::read_unit(unit);
-    let a = calls_shared_unit::dma(u, o, p);
-    refusals::finish(a, unit)
 }
 
 // One unit's run, by the unit of a record: the plain run, on buffers that are cleared where it may write none.
+#[tactic(auto, unfolding(model_shared::specs::Shared::unit_export, model_shared::specs::Shared::unit_on_record), using(crate::proofs::Cases::run_cases))]
 pub fn run_record(
     unit: &mut [u8],
     lines: u16,
@@ -96,33 +91,31 @@ pub fn run_record(
     ensures { exported result unit.new (line_memory left.now right.now nametables.now oam.now palette.now line.new (numbers_of colours.new)) ≡
         unit_export (run_call own reason lines) unit.old (line_memory left.now right.now nametables.now oam.now palette.now line.old (numbers_of colours.old)) }
 {
-    let l = &*left;
-    let r = &*right;
-    let t = &*nametables;
-    let o = &*oam;
-    let p = &*palette;
     if 2 < reason {
-        return 5;
+        return Refusal::Request as u64;
     }
-    let n = refusals::record_refusal(unit);
-    if n != 0 {
-        return n as u64;
+    let u = match refusals::record(unit) {
+        Ok(u) => u,
+        Err(r) => return r as u64,
+    };
+    if u.board.writable {
+        return Refusal::Writable as u64;
     }
-    let u = record::read_unit(unit);
-    let board = u.board;
-    if board.writable {
-        return 6;
-    }
-    calls_shared_unit::clear(
+    if calls_shared_unit::clears(
         u,
         lines,
-        l.len(),
-        r.len(),
-        t.len(),
-        o.len(),
-        p.len(),
-        line,
-        colours,
-    );
-    calls_records::run(unit, lines, reason, l, r, t, o, p, line, colours)
+        left,
+        right,
+        nametables,
+        oam,
+        palette,
+        line.len(),
+        colours.len(),
+    ) {
+        line.fill(0);
+        colours.fill(0);
+    }
+    calls_records::run(
+        unit, lines, reason, left, right, nametables, oam, palette, line, colours,
+    )
 }

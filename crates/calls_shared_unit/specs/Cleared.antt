@@ -1,7 +1,7 @@
 -- Which runs begin with cleared line buffers.
-use Rattle.std.specs.Prelude.{Bool, false, cond, not, ◌&&◌, List, [], ℕ, ◌*◌, ltb, eqb}
+use Rattle.std.specs.Prelude.{Bool, false, cond, not, ◌&&◌, List, ℕ, ◌*◌, ltb, eqb}
 use Rattle.model.specs.declared.Ppu.{Ppu}
-use Rattle.model.specs.Unit.{Memory, line_memory, line_length, colours_length, record_length, long}
+use Rattle.model.specs.Unit.{line_length, colours_length, record_length, long}
 use Rattle.model.specs.Record.{at}
 use Rattle.model.specs.Calls.{access_sizes, plain_refusal}
 
@@ -18,7 +18,3 @@ unfoldable pub clears : Ppu → ℕ → ℕ → ℕ → ℕ → ℕ → ℕ → 
 clears u n l r t o p b f =
     let sized : Bool = access_sizes u.board l r t o p && (eqb b line_length && eqb f (2 * colours_length)) in
     cond (begins_shown u n) false (eqb (plain_refusal sized u) 0)
-
--- both line buffers, the rest of memory empty
-abbrev pub buffers : List ℕ → List ℕ → Memory
-buffers b f = line_memory [] [] [] [] [] b f

@@ -3,112 +3,38 @@ use Prim.Native.Nat.{ℕ, zero, suc, ◌+◌, ◌*◌, ◌%◌, ◌<◌, ◌≤�
 use mathlib.Core.Path.{◌≡◌, refl, sym, ◌∙◌}
 use mathlib.Core.Bool.{Bool, true, false, cond}
 use mathlib.Core.Logic.{⊎_elim}
-use mathlib.Core.List.{List, ◌++◌}
+use mathlib.Core.List.{List}
 use native.Mathlib.Omega.{arith}
 use native.Mathlib.Numerals.{add-one}
 use native.Mathlib.Nat.{add-zero, add-suc}
 use lib.Bits.{bit_or, or_add_and, and_le_l, and_le_r}
-use lib.Seq.{get_or-set_same}
-use borrow.Author.Rules.{read_below}
 use lib.Dec.{eqb}
-use lib.ListN.{length, get_or, set, take, drop, length-set}
-use Rattle.model.specs.Line.{tab}
+use lib.ListN.{length, get_or, set, take}
 use Rattle.model.specs.Sprites.{oam_at, places_of, count_of}
-use Rattle.model.proofs.Tab.{tab_none, tab_more, tab_done, get_or_tab, tab_cong}
 use Rattle.model.proofs.Scroll.{lt_or_ge}
-use Rattle.choice.specs.Distance.{distance_of, distance_at, low_in, distance_from, is_from, near, mark_of, Marks, is_marked, or_of}
+use Rattle.choice.specs.Distance.{is_from, near, Marks, is_marked, or_of}
 use Rattle.choice.proofs.Places.{count_le, count_more, count_cong, places_more, places_cong, y_at}
 
--- the first i values of g are stored
-pub record Filled (g : ℕ → ℕ) (d₀ d : List ℕ) (i : ℕ) : Type 0 where
-  pub room : i ≤ 64
-  pub long : length d ≡ 64
-  pub stored : d ≡ tab g i ++ drop i d₀
-
-pub filled_start : (g : ℕ → ℕ) (d : List ℕ) → length d ≡ 64 → Filled g d d 0
-filled_start g d h = record { room = omega arith; long = h; stored = tab_none g d }
-
-module _ (g : ℕ → ℕ) (d₀ d : List ℕ) (i : ℕ) (m : Filled g d₀ d i) (h : length d₀ ≡ 64) where
-  filled_more : (v : ℕ) → i < 64 → v ≡ g i → Filled g d₀ (set d i v) (i + 1)
-  filled_more v lt e = record { room = omega arith; long = simp length-set m.long; stored = tab_more g i d₀ d v (omega arith) m.stored e }
-
-  pub filled_done : 64 ≤ i → d ≡ tab g 64
-  filled_done ge = tab_done g i 64 d₀ d (omega arith) h m.stored
-
--- by Y bytes, by distances, and by marks
-pub low_more : (w y₀ y : List ℕ) (i : ℕ) → Filled (low_in w) y₀ y i → length y₀ ≡ 64 → (v : ℕ) → i < 64 → v ≡ get_or w i 0 % 256 → Filled (low_in w) y₀ (set y i v) (i + 1)
-unfolding low_in
-low_more w y₀ y i m h v lt e = filled_more (low_in w) y₀ y i m h v lt e
-
-pub measured_more : (n : ℕ) (y d₀ d : List ℕ) (i : ℕ) → Filled (distance_from n y) d₀ d i → length d₀ ≡ 64 → (v : ℕ) → i < 64 → v ≡ distance_of n (get_or y i 0)
-    → Filled (distance_from n y) d₀ (set d i v) (i + 1)
-unfolding distance_from
-measured_more n y d₀ d i m h v lt e = filled_more (distance_from n y) d₀ d i m h v lt e
-
-pub marked_more : (d : List ℕ) (from t : ℕ) (m₀ m : List ℕ) (i : ℕ) → Filled (mark_of d from t) m₀ m i → length m₀ ≡ 64 → (v : ℕ) → i < 64
-    → v ≡ cond (is_from from t (get_or d i 0)) 1 0 → Filled (mark_of d from t) m₀ (set m i v) (i + 1)
-unfolding mark_of near
-marked_more d from t m₀ m i f h v lt e = filled_more (mark_of d from t) m₀ m i f h v lt e
-
--- the first i sprites stand in words, their Y bytes lowest
-pub record Worded (o w : List ℕ) (i : ℕ) : Type 0 where
-  pub room : i ≤ 64
-  pub long : length w ≡ 64
-  pub lows : (j : ℕ) → j < i → get_or w j 0 % 256 ≡ oam_at o j 0
-
-pub worded_start : (o w : List ℕ) → length w ≡ 64 → Worded o w 0
-worded_start o w h = record { room = omega arith; long = h; lows = λ j lt. omega (arith, lt) }
-
-module _ (o w : List ℕ) (i : ℕ) (m : Worded o w i) where
-  pub worded_more : (v : ℕ) → i < 64 → v % 256 ≡ oam_at o i 0 → Worded o (set w i v) (i + 1)
-  worded_more v lt e =
-      record {
-        room = omega arith;
-        long = simp length-set m.long;
-        lows =
-            λ j below.
-            ⊎_elim
-            (λ (less : j < i). rw (read_below ℕ w i j v 0 (get_or w j 0) less refl) (m.lows j less))
-            (λ (ge : i ≤ j). let z : j ≡ i = omega arith in rw z (rw (get_or-set_same w i v 0 (omega (arith, m.long))) e))
-            (lt_or_ge j i);
-      }
-
-  pub worded_done : 64 ≤ i → (j : ℕ) → j < 64 → get_or w j 0 % 256 ≡ oam_at o j 0
-  worded_done ge j lt = m.lows j (omega arith)
-
-pub ruleset worded_loop = (worded_start, worded_more, worded_done)
-
+-- the Y byte of a sprite is the lowest of its word
 pub word_low : (o : List ℕ) (i a b c d : ℕ) → a ≡ get_or o (4 * i) 0 → a < 256 → (a + b * 256 + c * 65536 + d * 16777216) % 256 ≡ oam_at o i 0
 word_low o i a b c d e lt = let z : (a + b * 256 + c * 65536 + d * 16777216) % 256 ≡ a = omega arith in z ∙ e ∙ y_at o i
 
--- so the distances from the words' Y bytes are those out of OAM
-pub worded_distances : (n : ℕ) (o w y d : List ℕ) → ((j : ℕ) → j < 64 → get_or w j 0 % 256 ≡ oam_at o j 0) → y ≡ tab (low_in w) 64 → d ≡ tab (distance_from n y) 64 → d ≡ tab (distance_at n o) 64
-unfolding low_in distance_from distance_at
-worded_distances n o w y d h f e = e ∙ tab_cong (distance_from n y) (distance_at n o) 64 (λ k lt. rw (f, get_or_tab (low_in w) 64 k lt, h k lt))
-
-pub ruleset filled_loop = (filled_start, low_more, measured_more, marked_more, filled_done)
-
 -- of the first i sprites n are near
 pub record Counted (d : List ℕ) (from h n i : ℕ) : Type 0 where
-  pub room : i ≤ 64
   pub few : n ≤ i
   pub so_far : n ≡ count_of (near d from h) i
 
 pub counted_start : (d : List ℕ) (from h : ℕ) → Counted d from h 0 0
 unfolding count_of
-counted_start d from h = record { room = omega arith; few = omega arith; so_far = refl }
+counted_start d from h = record { few = omega arith; so_far = refl }
 
-module _ (d : List ℕ) (from h n i : ℕ) (m : Counted d from h n i) where
-  pub counted_more : (o : ℕ) → i < 64 → o ≡ cond (is_from from h (get_or d i 0)) 1 0 → Counted d from h (n + o) (i + 1)
-  unfolding near
-  counted_more o lt e =
-      let k : n + o ≡ count_of (near d from h) (i + 1) = count_more (near d from h) i n o m.so_far e in
-      record { room = omega arith; few = rw k (count_le (near d from h) (i + 1)); so_far = k }
+pub counted_more : (d : List ℕ) (from h n i o : ℕ) → Counted d from h n i → o ≡ cond (is_from from h (get_or d i 0)) 1 0 → Counted d from h (n + o) (i + 1)
+unfolding near
+counted_more d from h n i o m e =
+    let k : n + o ≡ count_of (near d from h) (i + 1) = count_more (near d from h) i n o m.so_far e in
+    record { few = rw k (count_le (near d from h) (i + 1)); so_far = k }
 
-  pub counted_done : 64 ≤ i → n ≡ count_of (near d from h) 64
-  counted_done ge = let z : i ≡ 64 = omega (arith, m.room) in rw z at m.so_far
-
-pub ruleset counted_loop = (counted_start, counted_more, counted_done)
+pub ruleset counted_loop = (counted_start, counted_more)
 
 -- ---- marks
 -- the bits of the marks together
@@ -156,72 +82,55 @@ pub ruleset some_cases = (some_1, some_2)
 
 -- the k marked places below at + j stand at the front of the list
 pub record Listed (m : List ℕ) (at : ℕ) (l : List ℕ) (k j : ℕ) : Type 0 where
-  pub room : j ≤ 8
-  pub long : length l ≡ 65
   pub few : k ≤ at + j
   pub counted : k ≡ count_of (is_marked m) (at + j)
   pub places : take k l ≡ places_of (is_marked m) (at + j)
 
-pub listed_start : (m : List ℕ) (at : ℕ) (l : List ℕ) (k : ℕ) → length l ≡ 65 → k ≡ count_of (is_marked m) at → take k l ≡ places_of (is_marked m) at → Listed m at l k 0
-listed_start m at l k long e p =
+pub listed_start : (m : List ℕ) (at : ℕ) (l : List ℕ) (k : ℕ) → k ≡ count_of (is_marked m) at → take k l ≡ places_of (is_marked m) at → Listed m at l k 0
+listed_start m at l k e p =
     let z : at + 0 ≡ at = add-zero at in
-    record { room = omega arith; long = long; few = omega (arith, e, count_le (is_marked m) at); counted = rw z e; places = rw z p }
+    record { few = omega (arith, e, count_le (is_marked m) at); counted = rw z e; places = rw z p }
 
 module _ (m : List ℕ) (at : ℕ) (l : List ℕ) (k j : ℕ) (s : Listed m at l k j) where
   mark : (v : ℕ) → v ≤ 1 → v ≡ cond (eqb v 1) 1 0
   mark v h = ⊎_elim (λ (lt : v < 1). let z : v ≡ 0 = omega arith in rw z) (λ (ge : 1 ≤ v). let z : v ≡ 1 = omega arith in rw z) (lt_or_ge v 1)
 
-  pub listed_more : (w : ℕ) → Marks m → at + 8 ≤ 64 → j < 8 → w ≡ get_or m (at + j) 0 → Listed m at (set l k (at + j)) (k + w) (j + 1)
+  pub listed_more : (w : ℕ) → Marks m → length l ≡ 65 → at + 8 ≤ 64 → j < 8 → w ≡ get_or m (at + j) 0 → Listed m at (set l k (at + j)) (k + w) (j + 1)
   unfolding is_marked
-  listed_more w marks fits lt e =
+  listed_more w marks long fits lt e =
       let z : at + (j + 1) ≡ (at + j) + 1 = omega arith in
       let one : get_or m (at + j) 0 ≤ 1 = marks.each (at + j) (omega arith) in
       let o : w ≡ cond (is_marked m (at + j)) 1 0 = rw e (mark (get_or m (at + j) 0) one) in
       record {
-        room = omega arith;
-        long = simp length-set s.long;
         few = omega (arith, s.few, one);
         counted = rw z (count_more (is_marked m) (at + j) k w s.counted o);
-        places = rw z (places_more (is_marked m) (at + j) k w l (omega (arith, s.long, s.few)) s.places o);
+        places = rw z (places_more (is_marked m) (at + j) k w l (omega (arith, s.few)) s.places o);
       }
 
-  pub listed_count : 8 ≤ j → k ≡ count_of (is_marked m) (at + 8)
-  listed_count ge = let z : j ≡ 8 = omega (arith, s.room) in rw z at s.counted
-
-  pub listed_places : 8 ≤ j → take k l ≡ places_of (is_marked m) (at + 8)
-  listed_places ge = let z : j ≡ 8 = omega (arith, s.room) in rw z at s.places
-
-pub ruleset listed_loop = (listed_start, listed_more, listed_count, listed_places)
+pub ruleset listed_loop = (listed_start, listed_more)
 
 -- b times eight of them
 pub record Blocks (m l : List ℕ) (n b : ℕ) : Type 0 where
-  pub room : b ≤ 8
-  pub long : length l ≡ 65
   pub counted : n ≡ count_of (is_marked m) (8 * b)
   pub places : take n l ≡ places_of (is_marked m) (8 * b)
 
-pub blocks_start : (m l : List ℕ) → length l ≡ 65 → Blocks m l 0 0
+pub blocks_start : (m l : List ℕ) → Blocks m l 0 0
 unfolding count_of places_of
-blocks_start m l e = record { room = omega arith; long = e; counted = refl; places = refl }
+blocks_start m l = record { counted = refl; places = refl }
 
-module _ (m l : List ℕ) (n b : ℕ) (s : Blocks m l n b) where
-  pub blocks_more : (l' : List ℕ) (n' : ℕ) → b < 8 → length l' ≡ length l → n' ≡ count_of (is_marked m) (8 * b + 8) → take n' l' ≡ places_of (is_marked m) (8 * b + 8) → Blocks m l' n' (b + 1)
-  blocks_more l' n' lt e c p = let z : 8 * (b + 1) ≡ 8 * b + 8 = omega arith in record { room = omega arith; long = e ∙ s.long; counted = rw z c; places = rw z p }
+module _ (m l : List ℕ) (n b : ℕ) where
+  pub blocks_more : n ≡ count_of (is_marked m) (8 * b + 8) → take n l ≡ places_of (is_marked m) (8 * b + 8) → Blocks m l n (b + 1)
+  blocks_more c p = let z : 8 * (b + 1) ≡ 8 * b + 8 = omega arith in record { counted = rw z c; places = rw z p }
 
-  pub blocks_done : 8 ≤ b → take (count_of (is_marked m) 64) l ≡ places_of (is_marked m) 64
-  blocks_done ge =
-      let z : b ≡ 8 = omega (arith, s.room) in
+  pub blocks_done : Blocks m l n b → b ≡ 8 → take (count_of (is_marked m) 64) l ≡ places_of (is_marked m) 64
+  blocks_done s z =
       let e : n ≡ count_of (is_marked m) 64 = rw z at s.counted in
       rw (sym e) (rw z at s.places)
 
 pub ruleset blocks_loop = (blocks_start, blocks_more, blocks_done)
 
 -- the marks of near distances
-module _ (d : List ℕ) (from h : ℕ) (m : List ℕ) (e : m ≡ tab (mark_of d from h) 64) where
-  at_mark : (i : ℕ) → i < 64 → get_or m i 0 ≡ cond (near d from h i) 1 0
-  unfolding mark_of
-  at_mark i lt = rw e (get_or_tab (mark_of d from h) 64 i lt)
-
+module _ (d : List ℕ) (from h : ℕ) (m : List ℕ) (at_mark : (i : ℕ) → i < 64 → get_or m i 0 ≡ cond (near d from h i) 1 0) where
   pub near_marks : Marks m
   near_marks = record { each = λ i lt. rw (at_mark i lt) (low (near d from h i)) }
     where

@@ -5,16 +5,16 @@ use mathlib.Core.Bool.{Bool, true, false, cond, ◌&&◌, ◌||◌, true≢false
 use mathlib.Core.List.{List, []}
 use native.Mathlib.Omega.{arith}
 use native.Mathlib.Numerals.{add-one}
-use borrow.Author.Tests.{eq-eqb, ne_eqb, leb-true, ltb-true}
+use borrow.Author.Tests.{eq-eqb, lt-leb, leb-true, ltb-true}
 use lib.Bits.{bit_or, bit_and}
 use lib.Dec.{eqb, leb, ltb}
 use lib.ListN.{get_or, take}
-use Rattle.model.specs.Line.{tab, any_of}
+use Rattle.model.specs.Line.{any_of}
 use Rattle.model.specs.Sprites.{oam_at, height, is_in_range, covers, places_of, count_of, tried, looks_of, overflows, looked_at}
 use Rattle.model.proofs.Tests.{and_both}
 use Rattle.model.proofs.Text.{any_none}
 use Rattle.model.proofs.Search.{stands, looks_few, looks_eight, looks_on, looks_along, hit_over, hit_looked, past_over, past_looked}
-use Rattle.choice.specs.Distance.{distance_of, distance_at, is_from, near}
+use Rattle.choice.specs.Distance.{Distances, distance_of, is_from, near}
 use Rattle.choice.specs.Overflow.{on_diagonal, hits, Eight}
 use Rattle.choice.proofs.Places.{count_within, count_more, count_cong, from_in, from_covers, near_covers}
 use Rattle.choice.proofs.Cases.{listed_1}
@@ -40,60 +40,41 @@ first_not true b e f = absurd (true≢false (sym e ∙ f))
 
 -- of i sprites from at on n are near
 pub record Sixteen (d : List ℕ) (h at n i : ℕ) : Type 0 where
-  pub room : i ≤ 16
   pub most : n ≤ i
   pub so_far : count_of (near d 0 h) at + n ≡ count_of (near d 0 h) (at + i)
 
-module _ (d : List ℕ) (h at : ℕ) where
-  pub sixteen_start : Sixteen d h at 0 0
-  sixteen_start = let z : at + 0 ≡ at = omega arith in record { room = omega arith; most = omega arith; so_far = rw z (omega arith) }
+pub sixteen_start : (d : List ℕ) (h at : ℕ) → Sixteen d h at 0 0
+sixteen_start d h at = let z : at + 0 ≡ at = omega arith in record { most = omega arith; so_far = rw z (omega arith) }
 
-  module _ (n i : ℕ) (m : Sixteen d h at n i) where
-    pub sixteen_more : (o : ℕ) → i < 16 → o ≤ 1 → o ≡ cond (is_from 0 h (get_or d (at + i) 0)) 1 0 → Sixteen d h at (n + o) (i + 1)
-    unfolding near
-    sixteen_more o lt one e =
-        let z : at + (i + 1) ≡ at + i + 1 = omega arith in
-        let w : count_of (near d 0 h) at + (n + o) ≡ count_of (near d 0 h) at + n + o = omega arith in
-        record { room = omega arith; most = omega (arith, m.most); so_far = rw (z, w) (count_more (near d 0 h) (at + i) (count_of (near d 0 h) at + n) o m.so_far e) }
+pub sixteen_more : (d : List ℕ) (h at n i o : ℕ) → Sixteen d h at n i → o ≤ 1 → o ≡ cond (is_from 0 h (get_or d (at + i) 0)) 1 0 → Sixteen d h at (n + o) (i + 1)
+unfolding near
+sixteen_more d h at n i o m one e =
+    let z : at + (i + 1) ≡ at + i + 1 = omega arith in
+    let w : count_of (near d 0 h) at + (n + o) ≡ count_of (near d 0 h) at + n + o = omega arith in
+    record { most = omega (arith, m.most); so_far = rw (z, w) (count_more (near d 0 h) (at + i) (count_of (near d 0 h) at + n) o m.so_far e) }
 
-    pub sixteen_done : 16 ≤ i → count_of (near d 0 h) at + n ≡ count_of (near d 0 h) (at + 16)
-    sixteen_done ge = let z : i ≡ 16 = omega (arith, m.room) in rw z at m.so_far
-
-    pub sixteen_most : n ≤ 16
-    sixteen_most = omega (arith, m.most, m.room)
-
-pub ruleset sixteen_loop = (sixteen_start, sixteen_more, sixteen_done, sixteen_most)
-
--- sixteens passed over
-pub record Past (d : List ℕ) (h k i : ℕ) : Type 0 where
-  pub room : i ≤ 48
-  pub sixteens : i % 16 ≡ 0
-  pub few : k ≤ 7
-  pub so_far : k ≡ count_of (near d 0 h) i
-
-pub past_start : (d : List ℕ) (h : ℕ) → Past d h 0 0
-unfolding count_of
-past_start d h = record { room = omega arith; sixteens = refl; few = omega arith; so_far = refl }
-
-pub past_more : (d : List ℕ) (h k i o : ℕ) → Past d h k i → i < 48 → count_of (near d 0 h) i + o ≡ count_of (near d 0 h) (i + 16) → k + o ≤ 7 → Past d h (k + o) (i + 16)
-past_more d h k i o m lt e few = record { room = omega (arith, m.sixteens); sixteens = omega (arith, m.sixteens); few = few; so_far = omega (arith, e, m.so_far) }
-
-pub ruleset past_loop = (past_start, past_more)
+pub ruleset sixteen_loop = (sixteen_start, sixteen_more)
 
 -- of the first i sprites k are near, and not eight yet
 pub record Few (d : List ℕ) (h k i : ℕ) : Type 0 where
-  pub room : i ≤ 64
   pub few : k ≤ 7
   pub so_far : k ≡ count_of (near d 0 h) i
 
-pub few_start : (d : List ℕ) (h k i : ℕ) → i ≤ 48 → k ≤ 7 → k ≡ count_of (near d 0 h) i → Few d h k i
-few_start d h k i r f e = record { room = omega arith; few = f; so_far = e }
+pub few_none : (d : List ℕ) (h : ℕ) → Few d h 0 0
+unfolding count_of
+few_none d h = record { few = omega arith; so_far = refl }
+
+pub few_start : (d : List ℕ) (h k i : ℕ) → k ≤ 7 → k ≡ count_of (near d 0 h) i → Few d h k i
+few_start d h k i f e = record { few = f; so_far = e }
+
+pub few_sixteen : (d : List ℕ) (h k b o : ℕ) → Few d h k (16 * b) → count_of (near d 0 h) (16 * b) + o ≡ count_of (near d 0 h) (16 * b + 16) → k + o ≤ 7 → Few d h (k + o) (16 * (b + 1))
+few_sixteen d h k b o m e few = let z : 16 * (b + 1) ≡ 16 * b + 16 = omega arith in record { few = few; so_far = rw z (omega (arith, e, m.so_far)) }
 
 module _ (d : List ℕ) (h k i : ℕ) (m : Few d h k i) where
   module _ (o : ℕ) (e : o ≡ cond (is_from 0 h (get_or d i 0)) 1 0) where
-    pub few_more : i < 64 → k + o ≤ 7 → Few d h (k + o) (i + 1)
+    pub few_more : k + o ≤ 7 → Few d h (k + o) (i + 1)
     unfolding near
-    few_more lt few = record { room = omega arith; few = few; so_far = count_more (near d 0 h) i k o m.so_far e }
+    few_more few = record { few = few; so_far = count_more (near d 0 h) i k o m.so_far e }
 
     pub eighth_count : 7 < k + o → o ≤ 1 → count_of (near d 0 h) i ≡ 7
     eighth_count ge one = omega (arith, m.few, m.so_far)
@@ -102,20 +83,11 @@ module _ (d : List ℕ) (h k i : ℕ) (m : Few d h k i) where
     unfolding near
     eighth_near ge = is_one (is_from 0 h (get_or d i 0)) o e (omega (arith, m.few))
 
-  module _ (ge : 64 ≤ i) (some : 8 ≤ count_of (near d 0 h) 64) where
-    never : ⊥
-    never = let z : i ≡ 64 = omega (arith, m.room) in omega (arith, m.few, rw z at m.so_far)
+  module _ (z : i ≡ 64) (some : 8 ≤ count_of (near d 0 h) 64) where
+    pub never : ⊥
+    never = omega (arith, m.few, rw z at m.so_far)
 
-    pub never_room : i < 64
-    never_room = absurd never
-
-    pub never_count : count_of (near d 0 h) i ≡ 7
-    never_count = absurd never
-
-    pub never_near : near d 0 h i ≡ true
-    never_near = absurd never
-
-pub ruleset eighth_loop = (few_start, few_more, eighth_count, eighth_near, never_room, never_count, never_near)
+pub ruleset eighth_loop = (few_none, few_sixteen, few_start, few_more, eighth_count, eighth_near, never)
 
 -- a byte in range, by its distance
 pub tried_one : (n h y x r : ℕ) → h ≤ 16 → x ≡ distance_of n y → r ≡ cond (is_from 0 h x) 1 0 → r ≡ cond (is_in_range h n y) 1 0
@@ -125,17 +97,6 @@ tried_one n h y x r k e f =
     f ∙ rw (e, rw z at w)
 
 -- ---- the bytes tried of some sprites
-module _ (j s b : ℕ) (e : s ≡ j / 4 % 4) (f : b ≡ j % 4) where
-  pub diagonal_1 : s ≡ b → 1 ≡ cond {A = ℕ} (on_diagonal j) 1 0
-  unfolding on_diagonal
-  diagonal_1 g = rw (eq-eqb (j / 4 % 4) (j % 4) (sym e ∙ g ∙ f))
-
-  pub diagonal_2 : (s ≡ b → ⊥) → 0 ≡ cond {A = ℕ} (on_diagonal j) 1 0
-  unfolding on_diagonal
-  diagonal_2 g = rw (ne_eqb (j / 4 % 4) (j % 4) (λ z. g (e ∙ z ∙ sym f)))
-
-pub ruleset on_diagonal_cases = (diagonal_1, diagonal_2)
-
 any_test : (x y z : Bool) → bit_or (cond x 1 0) (bit_and (cond y 1 0) (cond z 1 0)) ≡ cond (x || (y && z)) 1 0
 any_test true true true = refl
 any_test true true false = refl
@@ -153,28 +114,17 @@ any_test false false z = go z
     go false = refl
 
 -- of the first j bytes one is tried and in range, or none
-pub record Some (h n : ℕ) (o : List ℕ) (i size any j : ℕ) : Type 0 where
-  pub room : j ≤ 4 * size
-  pub so_far : any ≡ cond (any_of (hits h n o i) j) 1 0
-
-module _ (h n : ℕ) (o : List ℕ) (i size : ℕ) where
-  pub some_start : Some h n o i size 0 0
+module _ (h n : ℕ) (o : List ℕ) (i : ℕ) where
+  pub some_start : 0 ≡ cond {A = ℕ} (any_of (hits h n o i) 0) 1 0
   unfolding any_of
-  some_start = record { room = omega arith; so_far = refl }
+  some_start = refl
 
-  module _ (any j : ℕ) (s : Some h n o i size any j) where
-    pub some_more : (t d : ℕ) → j < 4 * size → t ≡ cond (is_in_range h n (get_or o (4 * i + j) 0)) 1 0 → d ≡ cond (on_diagonal j) 1 0 → Some h n o i size (bit_or any (bit_and t d)) (j + 1)
-    unfolding any_of hits
-    some_more t d lt f g =
-        record {
-          room = omega arith;
-          so_far = rw (add-one j, s.so_far, f, g) (any_test (any_of (hits h n o i) j) (is_in_range h n (get_or o (4 * i + j) 0)) (on_diagonal j));
-        }
+  pub some_more : (any j t d : ℕ) → any ≡ cond (any_of (hits h n o i) j) 1 0 → t ≡ cond (is_in_range h n (get_or o (4 * i + j) 0)) 1 0 → d ≡ cond (on_diagonal j) 1 0
+      → bit_or any (bit_and t d) ≡ cond (any_of (hits h n o i) (j + 1)) 1 0
+  unfolding any_of hits
+  some_more any j t d s f g = rw (add-one j, s, f, g) (any_test (any_of (hits h n o i) j) (is_in_range h n (get_or o (4 * i + j) 0)) (on_diagonal j))
 
-    pub some_done : 4 * size ≤ j → any ≡ cond (any_of (hits h n o i) (4 * size)) 1 0
-    some_done ge = let z : j ≡ 4 * size = omega (arith, s.room) in rw z at s.so_far
-
-pub ruleset some_loop = (some_start, some_more, some_done)
+pub ruleset some_loop = (some_start, some_more)
 
 -- the search stands at byte b of sprite i
 pub record Diagonal (c : ℕ) (o : List ℕ) (n i b : ℕ) : Type 0 where
@@ -243,7 +193,7 @@ close_counts d from h le = count_within (near d from h) (near d 0 (h + 1)) 64 (�
         from_in 0 (h + 1) x (omega arith) (omega (arith, leb-true from x both.0, ltb-true (x - from) h both.1))
 
 -- by distances: fewer than eight in range, or the place of the eighth
-module _ (c n h : ℕ) (o d : List ℕ) (e : d ≡ tab (distance_at n o) 64) (g : h ≡ height c) where
+module _ (c n h : ℕ) (o d : List ℕ) (e : Distances n o d) (g : h ≡ height c) where
   near_is : (i : ℕ) → i < 64 → near d 0 h i ≡ covers c o n i
   near_is i lt = let z : n - 0 ≡ n = omega arith in rw g (rw z at (near_covers c n o d e 0 i lt (omega arith) (omega arith)))
 
@@ -267,13 +217,16 @@ module _ (c n h : ℕ) (o d : List ℕ) (e : d ≡ tab (distance_at n o) 64) (g 
 pub ruleset searched_cases = (few_looked, few_over, eight_at)
 
 -- fewer than eight distances from 0 to h, or none
-module _ (c n : ℕ) (o d : List ℕ) (e : d ≡ tab (distance_at n o) 64) (k : ℕ) where
+module _ (c n : ℕ) (o d : List ℕ) (e : Distances n o d) (k : ℕ) where
   pub close_few : k ≡ count_of (near d 0 (height c + 1)) 64 → k < 8 → false ≡ overflows c o n
   close_few f lt = few_over c n (height c) o d e refl (count_of (near d 0 (height c)) 64) refl (omega (arith, f, close_counts d 0 (height c) (omega arith)))
 
   module _ (h : ℕ) (g : h ≡ height c) (f : k ≡ count_of (near d 0 (h + 1)) 64) where
-    pub close_height : k ≡ count_of (near d 0 (height c + 1)) 64
+    close_height : k ≡ count_of (near d 0 (height c + 1)) 64
     close_height = rw g at f
+
+    pub close_under : (b : Bool) → k < 8 → b ≡ leb 8 k → b ≡ overflows c o n
+    close_under b lt z = z ∙ lt-leb 8 k lt ∙ close_few close_height lt
 
     pub close_none : k ≡ 0 → false ≡ overflows c o n
     close_none z = close_few close_height (omega (arith, z))
@@ -281,4 +234,4 @@ module _ (c n : ℕ) (o d : List ℕ) (e : d ≡ tab (distance_at n o) 64) (k : 
     pub close_shown : k ≡ 0 → [] ≡ cond (eqb n 0) [] (take 8 (places_of (covers c o (n - 1)) 64))
     close_shown z = listed_1 c n h o d e g (count_of (near d 1 h) 64) refl (omega (arith, f, z, close_counts d 1 h (omega arith)))
 
-pub ruleset choose_cases = (close_height, close_none, close_shown)
+pub ruleset choose_cases = (close_under, close_none, close_shown)

@@ -1,5 +1,5 @@
 -- The choice by distances is document 01's choice by Y bytes.
-use Prim.Native.Nat.{ℕ, zero, suc, ◌+◌, ◌-◌, ◌*◌, ◌/◌, ◌%◌, ◌<◌, ◌≤◌}
+use Prim.Native.Nat.{ℕ, zero, suc, ◌+◌, ◌-◌, ◌*◌, ◌/◌, ◌%◌, ◌<◌, ◌≤◌, min}
 use mathlib.Core.Path.{◌≡◌, refl, ap, sym, ◌∙◌}
 use mathlib.Core.Bool.{Bool, true, false, cond, ◌&&◌, false≢true}
 use mathlib.Core.Logic.{⊎_elim}
@@ -10,11 +10,9 @@ use borrow.Author.Tests.{ne_eqb, le-leb, lt-leb, lt-ltb, le-ltb, leb-true, ltb-t
 use lib.Dec.{eqb, ltb, leb}
 use lib.ListN.{length, get_or, set, take, length-append, get_or-append}
 use lib.Seq.{take-set-le, take-suc-set, take-take, take_all, get_or_at}
-use Rattle.model.specs.Line.{tab}
 use Rattle.model.specs.Sprites.{oam_at, height, covers, places_of, count_of}
-use Rattle.model.proofs.Tab.{get_or_tab}
 use Rattle.model.proofs.Scroll.{lt_or_ge}
-use Rattle.choice.specs.Distance.{distance_of, distance_at, is_from, near}
+use Rattle.choice.specs.Distance.{Distances, distance_of, is_from, near}
 
 -- ---- how many, and which
 pub count_le : (f : ℕ → Bool) (n : ℕ) → count_of f n ≤ n
@@ -195,18 +193,14 @@ take_cond zero true l = refl
 take_cond (suc n) true l = refl
 take_cond n false l = refl
 
-module _ (c n : ℕ) (o d : List ℕ) (e : d ≡ tab (distance_at n o) 64) where
-  each : (i : ℕ) → i < 64 → get_or d i 0 ≡ distance_of n (oam_at o i 0)
-  unfolding distance_at
-  each i lt = rw e (get_or_tab (distance_at n o) 64 i lt)
-
+module _ (c n : ℕ) (o d : List ℕ) (e : Distances n o d) where
   pub near_covers : (from i : ℕ) → i < 64 → from ≤ 1 → from ≤ n → near d from (height c) i ≡ covers c o (n - from) i
   unfolding near covers
-  near_covers from i lt f g = rw (each i lt) (from_covers from n (oam_at o i 0) (height c) (height_le c) f g)
+  near_covers from i lt f g = rw (e.each i lt) (from_covers from n (oam_at o i 0) (height c) (height_le c) f g)
 
   near_none : (i : ℕ) → i < 64 → n ≡ 0 → near d 1 (height c) i ≡ false
   unfolding near
-  near_none i lt z = rw (each i lt, z) (from_none (oam_at o i 0) (height c) (height_le c))
+  near_none i lt z = rw (e.each i lt, z) (from_none (oam_at o i 0) (height c) (height_le c))
 
   pub places_shown : places_of (near d 1 (height c)) 64 ≡ cond (eqb n 0) [] (places_of (covers c o (n - 1)) 64)
   places_shown =
@@ -218,13 +212,13 @@ module _ (c n : ℕ) (o d : List ℕ) (e : d ≡ tab (distance_at n o) 64) where
       (lt_or_ge 0 n)
 
   -- s of them are listed: the first eight
-  pub eight_shown : (s k : ℕ) (l : List ℕ) → s ≡ count_of (near d 1 (height c)) 64 → k ≡ cond (ltb 8 s) 8 s → take s l ≡ places_of (near d 1 (height c)) 64
+  pub eight_shown : (s k : ℕ) (l : List ℕ) → s ≡ count_of (near d 1 (height c)) 64 → k ≡ min s 8 → take s l ≡ places_of (near d 1 (height c)) 64
       → take k l ≡ cond (eqb n 0) [] (take 8 (places_of (covers c o (n - 1)) 64))
   eight_shown s k l f m z =
       let few : length (take s l) ≡ s = ap length z ∙ length_places (near d 1 (height c)) 64 ∙ sym f in
       let w : take k l ≡ take 8 (take s l) =
       ⊎_elim
-      (λ (lt : 8 < s). rw (m, lt-ltb 8 s lt) (sym (take-take 8 s l (omega arith))))
-      (λ (ge : s ≤ 8). rw (m, le-ltb 8 s ge) (sym (take_all 8 (take s l) (omega arith))))
+      (λ (lt : 8 < s). let eight : k ≡ 8 = omega (arith, m) in rw eight (sym (take-take 8 s l (omega arith))))
+      (λ (ge : s ≤ 8). let all : k ≡ s = omega (arith, m) in rw all (sym (take_all 8 (take s l) (omega arith))))
       (lt_or_ge 8 s) in
       w ∙ ap (take 8) (z ∙ places_shown) ∙ take_cond 8 (eqb n 0) (places_of (covers c o (n - 1)) 64)

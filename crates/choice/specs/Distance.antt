@@ -1,15 +1,11 @@
 -- The choice of sprites as the code makes it: by the line's distance from each sprite's Y byte.
-use Rattle.std.specs.Prelude.{Bool, cond, ◌&&◌, List, ℕ, zero, suc, ◌+◌, ◌-◌, ◌%◌, ◌<◌, ◌≤◌, leb, ltb, eqb, get_or}
+use Rattle.std.specs.Prelude.{◌≡◌, Bool, cond, ◌&&◌, List, ℕ, zero, suc, ◌+◌, ◌-◌, ◌%◌, ◌<◌, ◌≤◌, leb, ltb, eqb, get_or}
 use Rattle.std.specs.Int.Bits.{bit_or}
 use Rattle.model.specs.Sprites.{oam_at}
 
 -- how far line n is below y; 255 if it is above
 unfoldable pub distance_of : ℕ → ℕ → ℕ
 distance_of n y = cond (leb y n) (n - y) 255
-
--- and below the Y byte of sprite i
-unfoldable pub distance_at : ℕ → List ℕ → ℕ → ℕ
-distance_at n o i = distance_of n (oam_at o i 0)
 
 -- the Y byte in word i; and how far line n is below Y byte i
 unfoldable pub low_in : List ℕ → ℕ → ℕ
@@ -18,6 +14,10 @@ low_in w i = get_or w i 0 % 256
 unfoldable pub distance_from : ℕ → List ℕ → ℕ → ℕ
 distance_from n y i = distance_of n (get_or y i 0)
 
+-- d has that of each sprite's Y byte
+pub record Distances (n : ℕ) (o d : List ℕ) : Type 0 where
+  pub each : (i : ℕ) → i < 64 → get_or d i 0 ≡ distance_of n (oam_at o i 0)
+
 -- d is one of the h numbers from `from`
 unfoldable pub is_from : ℕ → ℕ → ℕ → Bool
 is_from from h d = leb from d && ltb (d - from) h
@@ -25,10 +25,6 @@ is_from from h d = leb from d && ltb (d - from) h
 -- and so is the distance of sprite i
 unfoldable pub near : List ℕ → ℕ → ℕ → ℕ → Bool
 near d from h i = is_from from h (get_or d i 0)
-
--- 1 where it is, else 0
-unfoldable pub mark_of : List ℕ → ℕ → ℕ → ℕ → ℕ
-mark_of d from h i = cond (near d from h i) 1 0
 
 -- 64 marks: each is 0 or 1
 pub record Marks (m : List ℕ) : Type 0 where

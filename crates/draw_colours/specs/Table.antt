@@ -1,5 +1,5 @@
 -- A drawn line's colours by a table of 32, those of the pixel numbers, each in the upper half of a word, so that two colours make one word.
-use Rattle.std.specs.Prelude.{◌≡◌, true, List, ℕ, ◌+◌, ◌*◌, ◌/◌, ◌%◌, ◌<◌, length, get_or}
+use Rattle.std.specs.Prelude.{◌≡◌, true, List, ℕ, ◌+◌, ◌*◌, ◌/◌, ◌%◌, ◌<◌, get_or}
 use Rattle.model.specs.declared.Ppu.{Ppu}
 use Rattle.model.specs.Unit.{is_rendering}
 use Rattle.model.specs.Ports.{greyed}
@@ -20,9 +20,7 @@ raised_shade m p n = shade m p n * 65536
 
 -- a table: words whose lower half is 0
 pub record Table (t : List ℕ) : Type 0 where
-  pub long : length t ≡ 32
   pub half : (k : ℕ) → get_or t k 0 % 65536 ≡ 0
-  pub small : (k : ℕ) → get_or t k 0 < 4294967296
 
 -- that of a mask and a palette
 pub record Shades (m : ℕ) (p t : List ℕ) : Type 0 where
@@ -33,9 +31,8 @@ pub record Shades (m : ℕ) (p t : List ℕ) : Type 0 where
 pub record RunShades (u : Ppu) (p t : List ℕ) : Type 0 where
   pub on : is_rendering u ≡ true → Shades u.mask p t
 
--- a line of pixel numbers
+-- pixel numbers
 pub record Pixels (l : List ℕ) : Type 0 where
-  pub long : length l ≡ 256
   pub small : (q : ℕ) → get_or l q 0 < 32
 
 -- the colour of the pixel number in column q, by the table

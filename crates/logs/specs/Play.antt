@@ -1,12 +1,10 @@
 -- What the play of a log leaves.
-use Rattle.std.specs.Prelude.{◌≡◌, List, ◌++◌, Bool, cond, ℕ, ◌+◌, ◌*◌, ◌/◌, min, length, drop}
+use Rattle.std.specs.Prelude.{◌≡◌, List, ◌++◌, Bool, cond, ℕ, ◌+◌, ◌*◌, ◌/◌, length, drop}
 use Rattle.std.proofs.lemmas.List.Edits.{sets}
 use Rattle.model.specs.declared.Entry.{Entry}
 use Rattle.model.specs.Unit.{Memory, State, state}
-use Rattle.model.specs.Log.{records_of, entry_of, play_entry, entry_text, ends, played_text, played_state, play_ends}
-use Rattle.reader.specs.declared.Step.{Step}
+use Rattle.model.specs.Log.{records_of, play_entry, entry_text, ends, played_text, played_state, play_ends}
 use Rattle.logs.specs.declared.Played.{Played}
-use Rattle.logs.specs.declared.Going.{Going}
 
 -- an entry played from state s: the unit and the memory left, its text in the output from place `at` on, and whether a refusal 5 ended the play
 pub record IsStep (e : Entry) (s : State) (out : List ℕ) (at : ℕ) (x : Played) (m : Memory) (out' : List ℕ) : Type 0 where
@@ -14,16 +12,6 @@ pub record IsStep (e : Entry) (s : State) (out : List ℕ) (at : ℕ) (x : Playe
   pub text : out' ≡ sets out at (entry_text e (play_entry e s).answer (play_entry e s).after.unit.scanline)
   pub written : x.written ≡ at + length (entry_text e (play_entry e s).answer (play_entry e s).after.unit.scanline)
   pub ended : x.ended ≡ ends (play_entry e s)
-
--- what a reader found at a play's place, played: the play x after it, at the place behind that, or at the log's end where a refusal 5 ended it
-pub record IsFound (f : Step) (g : Going) (end : ℕ) (m : Memory) (out : List ℕ) (x : Going) (m' : Memory) (out' : List ℕ) : Type 0 where
-  pub step : IsStep f.found (state g.played.unit m) out g.played.written x.played m' out'
-  pub place : x.at ≡ cond x.played.ended end f.next.at
-
--- the same of the record of a log at that place
-pub record IsNext (log : List ℕ) (g : Going) (m : Memory) (out : List ℕ) (x : Going) (m' : Memory) (out' : List ℕ) : Type 0 where
-  pub step : IsStep (entry_of (records_of (drop g.at log))) (state g.played.unit m) out g.played.written x.played m' out'
-  pub place : x.at ≡ cond x.played.ended (length log) (min (g.at + 4) (length log))
 
 -- a log played from state s: the unit and the memory left, the text at the front of the output, and whether a refusal 5 ended it
 pub record IsPlay (log : List ℕ) (s : State) (out : List ℕ) (x : Played) (m : Memory) (out' : List ℕ) : Type 0 where

@@ -1,14 +1,13 @@
 // The play of a log of accesses on a unit and lent memory, with what the player prints of it. Inner functions, not public calls.
-// play_one (one entry and its text), place_after, play_found, play_next (the next record of a log), play_log (a whole log), play_block (a block of a
-// longer log), whole, keep.
+// play_one (one entry and its text), play_log (a whole log), whole, play_block (a block of a longer log).
+// What is lent stands in each signature by itself: a struct that holds `&mut` cannot be passed on in a proof.
 #![tactic(auto)]
 
 ghost use Rattle.std.specs.Prelude.{◌≡◌, cond, ◌++◌, ◌+◌, ◌-◌, ◌*◌, ◌/◌, ◌≤◌, length, take, drop};
 ghost use Rattle.model.specs.Unit.{state, line_memory};
-ghost use Rattle.logs.specs.Play.{IsStep, IsFound, IsNext, IsPlay, whole_bytes};
+ghost use Rattle.logs.specs.Play.{IsStep, IsPlay, whole_bytes};
 
 use model::{Entry, Ppu};
-use reader::Step;
 
 // A play: the unit after it, how many bytes of the output are written, and whether a refusal 5 has ended it.
 #[derive(Clone, Copy)]
@@ -25,19 +24,11 @@ pub struct Block {
     pub kept: usize,
 }
 
-// A play that goes on: the same so far, and the place of the next record, the log's end where none is played any more.
-#[derive(Clone, Copy)]
-pub struct Going {
-    pub played: Played,
-    pub at: usize,
-}
-
-// An entry's call, and its text stored in the output from place `at` on.
+// An entry played after a play so far: its call, and its text stored in the output behind what is written.
 fn play_one(
     e: Entry,
-    u: Ppu,
+    p: Played,
     out: &mut [u8],
-    at: usize,
     left: &mut [u8],
     right: &mut [u8],
     nametables: &mut [u8],
@@ -46,101 +37,19 @@ fn play_one(
     line: &mut [u8],
     colours: &mut [u16],
 ) -> Played
-    requires { at + 15 ≤ length out.old }
-    ensures { IsStep e (state u (line_memory left.old right.old nametables.old oam.old palette.old line.old colours.old))
-        out.old at result (line_memory left.new right.new nametables.new oam.new palette.new line.new colours.new) out.new }
+    requires { p.written + 15 ≤ length out.old }
+    ensures { IsStep e (state p.unit (line_memory left.old right.old nametables.old oam.old palette.old line.old colours.old))
+        out.old p.written result (line_memory left.new right.new nametables.new oam.new palette.new line.new colours.new) out.new }
 {
-    let x = calls_play::play_entry(e, u, left, right, nametables, oam, palette, line, colours);
-    let written = answers::put_text(e, x, out, at);
-    let answer = x.answer;
-    let unit = x.unit;
-    Played {
-        unit,
-        written,
-        ended: answer.number == 5,
-    }
-}
-
-// Where the play of a log goes on: at the record behind the last; at the log's end, where a refusal 5 has ended it.
-fn place_after(ended: bool, next: usize, end: usize) -> usize
-    ensures { result ≡ cond ended end next }
-{
-    if ended {
-        return end;
-    }
-    next
-}
-
-// What stands at the place of a play, played; `end` is the log's.
-fn play_found(
-    s: Step,
-    g: Going,
-    end: usize,
-    out: &mut [u8],
-    left: &mut [u8],
-    right: &mut [u8],
-    nametables: &mut [u8],
-    oam: &mut [u8],
-    palette: &mut [u8],
-    line: &mut [u8],
-    colours: &mut [u16],
-) -> Going
-    requires { g.played.written + 15 ≤ length out.old }
-    ensures { IsFound s g end (line_memory left.old right.old nametables.old oam.old palette.old line.old colours.old)
-        out.old result (line_memory left.new right.new nametables.new oam.new palette.new line.new colours.new) out.new }
-{
-    let e = s.found;
-    let before = g.played;
-    let u = before.unit;
-    let played = play_one(
-        e,
-        u,
-        out,
-        before.written,
-        left,
-        right,
-        nametables,
-        oam,
-        palette,
-        line,
-        colours,
+    let x = calls_play::play_entry(
+        e, p.unit, left, right, nametables, oam, palette, line, colours,
     );
-    let next = s.next;
-    let at = place_after(played.ended, next.at, end);
-    Going { played, at }
-}
-
-// The record at the place of a play, played.
-fn play_next(
-    g: Going,
-    log: &[u8],
-    out: &mut [u8],
-    left: &mut [u8],
-    right: &mut [u8],
-    nametables: &mut [u8],
-    oam: &mut [u8],
-    palette: &mut [u8],
-    line: &mut [u8],
-    colours: &mut [u16],
-) -> Going
-    requires { g.played.written + 15 ≤ length out.old }
-    ensures { IsNext log.now g (line_memory left.old right.old nametables.old oam.old palette.old line.old colours.old)
-        out.old result (line_memory left.new right.new nametables.new oam.new palette.new line.new colours.new) out.new }
-{
-    let s = reader::read_at(log, g.at);
-    play_found(
-        s,
-        g,
-        log.len(),
-        out,
-        left,
-        right,
-        nametables,
-        oam,
-        palette,
-        line,
-        colours,
-    )
+    let written = answers::put_text(e, x, out, p.written);
+    Played {
+        unit: x.unit,
+        written,
+        ended: x.answer.number == 5,
+    }
 }
 
 // A log played into the output, which must have room for the longest line, 15 bytes, of each record.
@@ -160,43 +69,29 @@ pub fn play_log(
     ensures { IsPlay log.now (state u (line_memory left.old right.old nametables.old oam.old palette.old line.old colours.old))
         out.old result (line_memory left.new right.new nametables.new oam.new palette.new line.new colours.new) out.new }
 {
-    let played = Played {
+    let mut played = Played {
         unit: u,
         written: 0,
         ended: false,
     };
-    let mut g = Going { played, at: 0 };
-    while g.at < log.len() {
-        g = play_next(
-            g, log, out, left, right, nametables, oam, palette, line, colours,
+    for at in (0..log.len()).step_by(4) {
+        let found = reader::read_at(log, at).found;
+        played = play_one(
+            found, played, out, left, right, nametables, oam, palette, line, colours,
         );
+        if played.ended {
+            break;
+        }
     }
-    let all = g.played;
-    all
+    played
 }
 
 // How many of the n bytes of a block can be played: whole records, and all where the log ends.
+#[tactic(auto, unfolding(crate::specs::Play::whole_bytes))]
 fn whole(n: usize, last: bool) -> usize
     ensures { (result ≡ whole_bytes last n) × (result ≤ n) }
 {
-    if last {
-        return n;
-    }
-    n / 4 * 4
-}
-
-// The bytes of a block between two places, moved to its front; how many they are.
-fn keep(block: &mut [u8], from: usize, to: usize) -> usize
-    requires { (from ≤ to) × (to ≤ length block.old) }
-    ensures { (block.new ≡ take (to - from) (drop from block.old) ++ drop (to - from) block.old) × (result ≡ to - from) }
-{
-    let n = to - from;
-    let mut i = 0;
-    while i < n {
-        block[i] = block[from + i];
-        i += 1;
-    }
-    n
+    if last { n } else { n / 4 * 4 }
 }
 
 // A block of a longer log: its first n bytes hold what is left of the block before it and what was read. Whole records are played;
@@ -234,6 +129,9 @@ pub fn play_block(
         line,
         colours,
     );
-    let kept = keep(block, used, n);
-    Block { played, kept }
+    block.copy_within(used..n, 0);
+    Block {
+        played,
+        kept: n - used,
+    }
 }

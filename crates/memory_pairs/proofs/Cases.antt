@@ -1,15 +1,15 @@
 -- The ways of each function, for `search`.
 use Prim.Native.Nat.{ℕ, suc, ◌+◌, ◌*◌, ◌/◌, ◌%◌, ◌<◌, ◌≤◌}
 use mathlib.Core.Path.{◌≡◌, refl, sym, ap, ◌∙◌}
-use mathlib.Core.List.{List, ◌++◌}
+use mathlib.Core.List.{List}
 use mathlib.Core.Logic.{⊎_elim}
 use native.Mathlib.Omega.{arith}
 use native.Mathlib.Nat.{eq-or-lt_of_le, le_of_suc-le-suc}
-use lib.ListN.{length, get_or, set, drop, length-set}
+use lib.ListN.{length, get_or, set, length-set}
 use lib.Seq.{get_or-set_same, get_or-set_other}
 use Rattle.model.specs.Line.{tab}
 use Rattle.model.specs.Colours.{paired, numbers_of}
-use Rattle.model.proofs.Tab.{tab_none, tab_more, tab_done, tab_ext, tab_cong}
+use Rattle.model.proofs.Tab.{tab_ext, tab_cong}
 use Rattle.model.proofs.Colours.{paired_long, paired_at, numbers_even}
 use Rattle.memory_pairs.specs.Pairs.{pair_at, stored_pair, always, number_at}
 
@@ -21,34 +21,18 @@ numbers_tab l h =
     ∙ tab_ext (pair_at l) 256 (paired l) (omega (arith, paired_long l, h)) (λ k lt. paired_at l k (omega (arith, h)))
 
 -- 256 numbers taken
-pub record Taken (l d₀ d : List ℕ) (i : ℕ) : Type 0 where
-  pub room : i ≤ 256
-  pub long : length d ≡ 256
-  pub stored : d ≡ tab (pair_at l) i ++ drop i d₀
-
-module _ (l d₀ : List ℕ) (h : length d₀ ≡ 256) where
-  pub taken_start : Taken l d₀ d₀ 0
-  taken_start = record { room = omega arith; long = h; stored = tab_none (pair_at l) d₀ }
-
-  pub taken_more : (d : List ℕ) (i v : ℕ) → Taken l d₀ d i → i < 256 → v ≡ get_or l (2 * i) 0 + get_or l (2 * i + 1) 0 * 256 → Taken l d₀ (set d i v) (i + 1)
-  unfolding pair_at
-  taken_more d i v m lt e = record { room = omega arith; long = simp length-set m.long; stored = tab_more (pair_at l) i d₀ d v (omega arith) m.stored e }
-
-  pub taken_done : (d : List ℕ) (i : ℕ) → Taken l d₀ d i → 256 ≤ i → length l ≡ 512 → d ≡ numbers_of l
-  taken_done d i m ge k = tab_done (pair_at l) i 256 d₀ d (omega (arith, m.room)) h m.stored ∙ sym (numbers_tab l k)
-
-pub ruleset take_cases = (taken_start, taken_more, taken_done)
+pub taken : (l d : List ℕ) (i : ℕ) → length l ≡ 512 → length d ≡ 256 → 256 ≤ i → ((k : ℕ) → k < i → get_or d k 0 ≡ pair_at l k) → d ≡ numbers_of l
+taken l d i h g ge e = tab_ext (pair_at l) 256 d g (λ k lt. e k (omega (arith, lt))) ∙ sym (numbers_tab l h)
 
 -- 256 numbers put, those of f
 pub record Given (f : ℕ → ℕ) (l : List ℕ) (i : ℕ) : Type 0 where
-  pub room : i ≤ 256
   pub long : length l ≡ 512
   pub same : (k : ℕ) → k < i → pair_at l k ≡ f k
 
 pub given_start : (f : ℕ → ℕ) (l : List ℕ) → length l ≡ 512 → Given f l 0
-given_start f l h = record { room = omega arith; long = h; same = λ k lt. absurd (omega (arith, lt)) }
+given_start f l h = record { long = h; same = λ k lt. absurd (omega (arith, lt)) }
 
-pub stored_long : (l : List ℕ) (k n : ℕ) → length (stored_pair l k n) ≡ length l
+stored_long : (l : List ℕ) (k n : ℕ) → length (stored_pair l k n) ≡ length l
 unfolding stored_pair
 stored_long l k n = length-set (set l (2 * k) (n % 256)) (2 * k + 1) (n / 256) ∙ length-set l (2 * k) (n % 256)
 
@@ -76,7 +60,6 @@ module _ (f : ℕ → ℕ) (l : List ℕ) (i : ℕ) (g : Given f l i) where
   pub given_more : (v : ℕ) (l' : List ℕ) → i < 256 → v ≡ f i → l' ≡ stored_pair l i v → Given f l' (i + 1)
   given_more v l' lt e el =
       record {
-        room = omega arith;
         long = ap length el ∙ stored_long l i v ∙ g.long;
         same = λ k h.
             ⊎_elim
@@ -103,15 +86,7 @@ module _ (n l : List ℕ) (i : ℕ) (g : Given (number_at n) l i) where
   unfolding number_at
   put_done ge h = given_done (number_at n) l i g ge ∙ sym (tab_ext (number_at n) 256 n h (λ k lt. refl))
 
-pub ruleset put_cases = (given_start, put_more, put_done)
-
 module _ (n : ℕ) (l : List ℕ) (i : ℕ) (g : Given (always n) l i) where
   pub same_more : (l' : List ℕ) → i < 256 → l' ≡ stored_pair l i n → Given (always n) l' (i + 1)
   unfolding always
   same_more l' lt e = given_more (always n) l i g n l' lt refl e
-
-pub ruleset same_cases = (given_start, same_more, given_done)
-
-pub store_is : (l l' : List ℕ) (k n a b : ℕ) → a ≡ n % 256 → b ≡ n / 256 → l' ≡ set (set l (2 * k) a) (2 * k + 1) b → l' ≡ stored_pair l k n
-unfolding stored_pair
-store_is l l' k n a b ea eb e = e ∙ rw (ea, eb)

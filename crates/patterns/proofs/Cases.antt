@@ -22,13 +22,13 @@ module _ (c : ℕ) (o : List ℕ) (n i y r : ℕ) (e : y ≡ get_or o (4 * i) 0)
   pub row_3 : covers c o n i ≡ true → r ≡ n - y → r < 16
   row_3 k z = omega (arith, covers_to c o n i k, height_le c, y_at o i)
 
-module _ (c : ℕ) (o : List ℕ) (n i y r g h : ℕ) (e : y ≡ get_or o (4 * i) 0) (w : h ≡ g) (f : g ≡ height c) where
+module _ (c : ℕ) (o : List ℕ) (n i y r h : ℕ) (e : y ≡ get_or o (4 * i) 0) (f : h ≡ height c) where
   pub row_4 : covers c o n i ≡ true → n - y ≤ h - 1
   row_4 k = omega (arith, covers_from c o n i k, covers_to c o n i k, y_at o i)
 
   pub row_5 : (b : Bool) → b ≡ bit 128 (oam_at o i 2) → b ≡ true → r ≡ h - 1 - (n - y) → r ≡ row_of c o n i
   unfolding row_of
-  row_5 b d t z = z ∙ rw (sym d ∙ t, w, f, e, y_at o i)
+  row_5 b d t z = z ∙ rw (sym d ∙ t, f, e, y_at o i)
 
 pub ruleset row_cases = (row_1, row_2, row_3, row_4, row_5)
 
@@ -54,18 +54,9 @@ module _ (c : ℕ) (o : List ℕ) (row i t r : ℕ) (b : Bool) (e : b ≡ bit 32
 
 pub ruleset tile_cases = (tile_1, tile_2)
 
-pub pattern_1 : (c : ℕ) (o : List ℕ) (n i row t l r : ℕ) → row ≡ row_of c o n i → t ≡ tile_of c o row i → l ≡ row % 8 → r ≡ 16 * t + l → r ≡ pattern_at c o n i
+pub pattern_1 : (c : ℕ) (o : List ℕ) (n i row t r : ℕ) → row ≡ row_of c o n i → t ≡ tile_of c o row i → r ≡ 16 * t + row % 8 → r ≡ pattern_at c o n i
 unfolding pattern_at
-pattern_1 c o n i row t l r e f g z = z ∙ rw (f, g, e)
-
-module _ (second : Bool) (at r : ℕ) (left right : List ℕ) where
-  pub byte_1 : second ≡ true → r ≡ get_or right at 0 → r ≡ get_or (table_of second left right) at 0
-  byte_1 e z = rw e z
-
-  pub byte_2 : second ≡ false → r ≡ get_or left at 0 → r ≡ get_or (table_of second left right) at 0
-  byte_2 e z = rw e z
-
-pub ruleset byte_cases = (byte_1, byte_2)
+pattern_1 c o n i row t r e f z = z ∙ rw (f, e)
 
 pub fetch_1 : (c : ℕ) (left right o : List ℕ) (n i at a b : ℕ) (second : Bool) (s : Sprite) → at ≡ pattern_at c o n i → second ≡ second_table c o i
     → a ≡ get_or (table_of second left right) at 0 → b ≡ get_or (table_of second left right) (at + 8) 0

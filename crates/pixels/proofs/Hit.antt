@@ -1,5 +1,5 @@
 -- Some column has a property: one column more, two properties that agree, columns that have it not; eight pixels over a line.
-use Prim.Native.Nat.{ℕ, zero, suc, ◌+◌, ◌-◌, ◌<◌, ◌≤◌}
+use Prim.Native.Nat.{ℕ, zero, suc, ◌+◌, ◌-◌, ◌<◌, ◌≤◌, min, max}
 use mathlib.Core.Path.{◌≡◌, refl, sym, ◌∙◌}
 use mathlib.Core.Bool.{Bool, true, false, cond, ◌&&◌, ◌||◌, or-true, or-false, and-false}
 use mathlib.Core.Logic.{⊎_elim}
@@ -88,50 +88,25 @@ module _ (b : List ℕ) (g : ℕ → ℕ) (x skip : ℕ) where
   unfolding placed
   meet_after p ge = no_meet p (off (ltb p skip) (placed g x p) (rw (le-leb x p (omega arith), le-ltb p (x + 8) ge)))
 
-  -- of the columns below p so many are found; past `end` none is
-  pub record Met (end found p : ℕ) : Type 0 where
-    pub room : p ≤ end
-    pub from : x ≤ p
-    pub shown : skip ≤ p
+  -- of the columns below p so many are found
+  pub record Met (found p : ℕ) : Type 0 where
     pub few : found ≤ p
     pub so_far : ltb 0 found ≡ any_of meet p
 
-  module _ (end : ℕ) (last : end ≡ cond (ltb (x + 8) 255) (x + 8) 255) where
-    ends : (x + 8 < 255 → end ≡ x + 8) × (255 ≤ x + 8 → end ≡ 255)
-    ends = (λ lt. last ∙ rw (lt-ltb (x + 8) 255 lt), λ ge. last ∙ rw (le-ltb (x + 8) 255 ge))
+  pub met_start : (p : ℕ) → p ≡ max x skip → Met 0 p
+  unfolding any_of
+  met_start p e =
+      record {
+        few = omega arith;
+        so_far = sym (any_past meet 0 p (omega arith) (λ j ge lt. ⊎_elim (λ (a : j < skip). meet_hidden j a) (λ (a : skip ≤ j). meet_before j (omega arith)) (lt_or_ge j skip)));
+      }
 
-    pub met_start : (p : ℕ) → x < 256 → skip ≤ 8 → x ≤ p → skip ≤ p → p ≡ cond (ltb x skip) skip x → Met end 0 p
-    unfolding any_of
-    met_start p small narrow h k e =
-        ⊎_elim
-        (λ (a : x < skip). let d : p ≡ skip = rw (lt-ltb x skip a) at e in start (omega (arith, ends.0 (omega arith))) (λ j lt. meet_hidden j (omega arith)))
-        (λ (a : skip ≤ x).
-        let d : p ≡ x = rw (le-ltb x skip a) at e in
-        start (⊎_elim (λ (lt : x + 8 < 255). omega (arith, ends.0 lt)) (λ (ge : 255 ≤ x + 8). omega (arith, ends.1 ge)) (lt_or_ge (x + 8) 255)) (λ j lt. meet_before j (omega arith)))
-        (lt_or_ge x skip)
-      where
-        start : p ≤ end → ((j : ℕ) → j < p → meet j ≡ false) → Met end 0 p
-        start r none = record { room = r; from = h; shown = k; few = omega arith; so_far = sym (any_past meet 0 p (omega arith) (λ j ge lt. none j lt)) }
+  module _ (found p : ℕ) (m : Met found p) where
+    pub met_more : (v r : ℕ) → x ≤ p → skip ≤ p → p < x + 8 → v ≡ g (p - x) → r ≡ bit_byte (ltb 0 (get_or b p 0) && ltb 0 v) → r < 2 → Met (found + r) (p + 1)
+    met_more v r from shown lt e d small = record { few = omega (arith, m.few); so_far = any_count meet p found r m.so_far (d ∙ rw (e, ← meet_in p shown from lt)) }
 
-    module _ (found p : ℕ) (m : Met end found p) where
-      pub met_more : (v r : ℕ) → p < end → end ≤ x + 8 → v ≡ g (p - x) → r ≡ bit_byte (ltb 0 (get_or b p 0) && ltb 0 v) → r < 2 → Met end (found + r) (p + 1)
-      met_more v r lt in-eight e d small =
-          record {
-            room = omega arith;
-            from = omega (arith, m.from);
-            shown = omega (arith, m.shown);
-            few = omega (arith, m.few);
-            so_far = any_count meet p found r m.so_far (d ∙ rw (e, ← meet_in p m.shown m.from (omega arith)));
-          }
-
-      pub met_done : end ≤ p → ltb 0 found ≡ meets_of b (placed g x) skip
-      unfolding meets_of
-      met_done over =
-          ⊎_elim
-          (λ (lt : x + 8 < 255).
-          let d : p ≡ x + 8 = omega (arith, m.room, ends.0 lt) in
-          m.so_far ∙ sym (any_past meet p 255 (omega arith) (λ k h l. meet_after k (omega arith))))
-          (λ (ge : 255 ≤ x + 8). let d : p ≡ 255 = omega (arith, m.room, ends.1 ge) in rw d at m.so_far)
-          (lt_or_ge (x + 8) 255)
+    pub met_done : p ≡ min (x + 8) 255 → ltb 0 found ≡ meets_of b (placed g x) skip
+    unfolding meets_of
+    met_done e = m.so_far ∙ sym (any_past meet p 255 (omega arith) (λ k h l. meet_after k (omega arith)))
 
 pub ruleset met_loop = (met_start, met_more, met_done)

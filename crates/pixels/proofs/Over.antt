@@ -45,6 +45,12 @@ pub over_more : (g : ℕ → ℕ) (at n : ℕ) (l l' : List ℕ) (v r : ℕ) →
 unfolding over_tab
 over_more g at n l l' v r e k d = rw (add-one n, d, k, ← e) (over_set l' (at + n) (g n))
 
+pub over_start : (g : ℕ → ℕ) (at : ℕ) (l : List ℕ) → l ≡ over_tab g at 0 l
+unfolding over_tab
+over_start g at l = refl
+
+pub ruleset over_loop = (over_start, over_more)
+
 -- at the place of a store, and at any other
 over_same : (l : List ℕ) (at v : ℕ) → at < length l → get_or (over_at l at v) at 0 ≡ over_one (get_or l at 0) v
 unfolding over_at

@@ -1,25 +1,14 @@
 -- Pixels stored in a row: together, one after another, and as the next part of a row that is filled from the front.
 use Prim.Native.Nat.{ℕ, zero, suc, ◌+◌, ◌<◌, ◌≤◌}
-use mathlib.Core.Path.{◌≡◌, refl, ◌∙◌}
-use mathlib.Core.Bool.{cond}
+use mathlib.Core.Path.{◌≡◌, refl}
 use mathlib.Core.List.{List, ◌++◌}
-use mathlib.Core.Logic.{⊎_elim}
 use native.Mathlib.Omega.{arith}
 use native.Mathlib.Numerals.{add-one}
 use native.Mathlib.Nat.{add-zero, add-suc, add_assoc}
-use borrow.Author.Tests.{lt-ltb, le-ltb}
-use lib.Dec.{ltb}
-use lib.ListN.{length, get_or, set, drop}
-use lib.Seq.{get_or-set_same, get_or-set_other}
+use lib.ListN.{length, set, drop}
 use Rattle.model.specs.Line.{tab}
 use Rattle.model.proofs.Tab.{tab_more}
-use Rattle.model.proofs.Scroll.{lt_or_ge}
 use Rattle.pixels.specs.Row.{store_tab}
-
--- one store more
-pub store_more : (g : ℕ → ℕ) (at n : ℕ) (l l' : List ℕ) (v : ℕ) → l' ≡ store_tab g at n l → v ≡ g n → set l' (at + n) v ≡ store_tab g at (n + 1) l
-unfolding store_tab
-store_more g at n l l' v e h = rw (add-one n, e, h)
 
 -- two functions that agree below n
 pub store_cong : (f g : ℕ → ℕ) (at n : ℕ) (l : List ℕ) → ((j : ℕ) → j < n → f j ≡ g j) → store_tab f at n l ≡ store_tab g at n l
@@ -42,16 +31,13 @@ tile_more f g at (suc n) l l' h e k =
     rw (add-suc at n, ← add-one (at + n))
     (tab_more f (at + n) l (store_tab g at n l') (g n) (omega arith) (tile_more f g at n l l' (omega arith) e (λ j lt. k j (omega arith))) (k n (omega arith)))
 
--- a list whose first columns are cleared: one store more
-pub clear_more : (l l' : List ℕ) (i p : ℕ) → i < length l' → get_or l' p 0 ≡ cond (ltb p i) 0 (get_or l p 0) → get_or (set l' i 0) p 0 ≡ cond (ltb p (i + 1)) 0 (get_or l p 0)
-clear_more l l' i p h e =
-    ⊎_elim
-    (λ (lt : p < i). get_or-set_other l' i p 0 0 (λ d. omega arith) ∙ e ∙ rw (lt-ltb p i lt, lt-ltb p (i + 1) (omega arith)))
-    (λ (ge : i ≤ p).
-    ⊎_elim
-    (λ (lt : p < i + 1).
-    let d : p ≡ i = omega arith in
-    rw (lt-ltb p (i + 1) lt, d) (get_or-set_same l' i 0 0 h))
-    (λ (out : i + 1 ≤ p). get_or-set_other l' i p 0 0 (λ d. omega arith) ∙ e ∙ rw (le-ltb p i (omega arith), le-ltb p (i + 1) out))
-    (lt_or_ge p (i + 1)))
-    (lt_or_ge p i)
+-- a loop that stores: none stored, one more
+pub store_start : (g : ℕ → ℕ) (at : ℕ) (l : List ℕ) → l ≡ store_tab g at 0 l
+unfolding store_tab
+store_start g at l = refl
+
+pub store_more : (g : ℕ → ℕ) (at n : ℕ) (l l' : List ℕ) (v : ℕ) → l' ≡ store_tab g at n l → v ≡ g n → set l' (at + n) v ≡ store_tab g at (n + 1) l
+unfolding store_tab
+store_more g at n l l' v e h = rw (add-one n, e, h)
+
+pub ruleset store_loop = (store_start, store_more)

@@ -1,18 +1,19 @@
 -- A turn of the player: a read, the play of what is there, a write; when another follows; and all of them.
-use Rattle.std.specs.Prelude.{◌≡◌, List, ◌++◌, Bool, true, not, ◌&&◌, cond, ℕ, ◌+◌, ◌-◌, ◌<◌, ◌≤◌, eqb, length, take, drop}
+use Rattle.std.specs.Prelude.{◌≡◌, List, ◌++◌, Bool, true, not, ◌&&◌, ℕ, ◌+◌, ◌-◌, ◌<◌, ◌≤◌, eqb, length, take, drop}
 use Rattle.model.specs.declared.Ppu.{Ppu}
-use Rattle.model.specs.Unit.{Memory, State, state}
+use Rattle.model.specs.Unit.{Memory, State, state, line_memory}
 use Rattle.logs.specs.declared.Played.{Played}
 use Rattle.logs.specs.Play.{IsPlay, whole_bytes}
+use Rattle.player.specs.declared.Machine.{Machine}
 use Rattle.player.specs.declared.Progress.{Progress}
 
 -- whether the player reads on: something was read, no refusal 5 has ended the play, and what it printed could be written
 unfoldable pub goes_on : ℕ → Bool → Bool → Bool
 goes_on more is_written ended = not (eqb more 0) && (not ended && is_written)
 
--- the turns that are left after one: none where the player does not read on
-unfoldable pub turns_after : ℕ → Bool → ℕ
-turns_after turns going = cond going (turns - 1) 0
+-- the memory that is lent
+abbrev pub memory_of : Machine → Memory
+memory_of m = line_memory m.left m.right m.nametables m.oam m.palette m.line m.colours
 
 -- how much of a block is played in which `more` bytes were read behind `kept`: whole records, and all where nothing was read, since the log has ended
 abbrev pub played_bytes : ℕ → ℕ → ℕ

@@ -1,5 +1,5 @@
-// Accepted accesses and sprite DMA: what they do to the unit and to lent memory. Inner functions, not public calls:
-// they require the lengths that a call has checked.
+// Accepted accesses and sprite DMA: what they do to the unit and to lent memory. Inner functions, not public calls: they require what their types
+// do not say of the lengths that a call has checked.
 // read, write, write_kept, dma; below them read_byte, read_unit, wrote, copy_page.
 #![tactic(auto)]
 
@@ -11,97 +11,83 @@ ghost use Rattle.model.specs.Unit.{
   access_memory,
   dma_memory,
   VideoLengths,
+  nametable_length,
   oam_length,
-  palette_length,
-  page_length,
 };
-ghost use Rattle.model.specs.Ports.{read_byte, read_unit, wrote_unit};
+ghost use Rattle.model.specs.Ports.{read_byte, read_unit, wrote_unit, dma_unit, dma_oam};
+ghost use Rattle.lent.specs.Cells.{cells_of, accessed};
 ghost use Rattle.model.specs.Calls.{
   access,
   done_answer,
+  outcome_on,
   access_outcome,
   dma_outcome,
   read_done,
   write_done,
   dma_done,
 };
-ghost use Rattle.ports.specs.Copy.{copied, copy_of};
 
+use lent::{Lent, Tables};
 use model::{Access, Ppu};
 
 // The answer of a read; only ports 4 and 7 see memory.
-pub fn read_byte(u: Ppu, port: u16, oam: &[u8], palette: &[u8]) -> u8
-    requires { (length oam.now ≡ oam_length) × (length palette.now ≡ palette_length) }
+#[tactic(auto, unfolding(model::specs::Ports::read_byte, model::specs::Ports::data_byte))]
+pub fn read_byte(u: Ppu, port: u16, oam: &[u8; 256], palette: &[u8; 32]) -> u8
     ensures { result ≡ read_byte port u (access_cells [] [] [] oam.now palette.now) }
 {
-    if port == 2 {
-        return reads::status_byte(u);
+    match port {
+        2 => reads::status_byte(u),
+        4 => memory::oam_byte(u.oamaddr, oam),
+        7 if u.v % 16384 < 16128 => u.buffer,
+        7 => reads::palette_answer(u, memory::palette_byte(u.v, palette)),
+        _ => u.latch,
     }
-    if port == 4 {
-        return memory::oam_byte(u.oamaddr, oam);
-    }
-    if port == 7 {
-        if u.v % 16384 < 16128 {
-            return u.buffer;
-        }
-        let entry = memory::palette_byte(u.v, palette);
-        return reads::palette_answer(u, entry);
-    }
-    u.latch
 }
 
 // The unit after a read with this answer.
+#[tactic(auto, unfolding(model::specs::Ports::read_unit, model::specs::Ports::read_data))]
 pub fn read_unit(
     u: Ppu,
     port: u16,
     answer: u8,
-    left: &[u8],
-    right: &[u8],
+    tables: Tables,
     nametables: &[u8],
-    palette: &[u8],
+    palette: &[u8; 32],
 ) -> Ppu
-    requires { VideoLengths u.board (video left.now right.now nametables.now palette.now) }
-    ensures { result ≡ read_unit port u answer (video left.now right.now nametables.now palette.now) }
+    requires { length nametables.now ≡ nametable_length u.board }
+    ensures { result ≡ read_unit port u answer (video tables.entry.left.now tables.entry.right.now nametables.now palette.now) }
 {
-    if port == 2 {
-        return reads::read_status(u, answer);
+    match port {
+        2 => reads::read_status(u, answer),
+        7 => {
+            let buffer = memory::buffer_byte(u.board, u.v, tables, nametables, palette);
+            reads::read_data(u, answer, buffer)
+        }
+        _ => reads::fill_latch(u, answer),
     }
-    if port == 7 {
-        let board = u.board;
-        let buffer = memory::buffer_byte(board, u.v, left, right, nametables, palette);
-        return reads::read_data(u, answer, buffer);
-    }
-    reads::fill_latch(u, answer)
 }
 
-// An accepted read of a port.
-pub fn read(
-    u: Ppu,
-    port: u16,
-    left: &[u8],
-    right: &[u8],
-    nametables: &[u8],
-    oam: &[u8],
-    palette: &[u8],
-) -> Access
-    requires { VideoLengths u.board (video left.now right.now nametables.now palette.now) × (length oam.now ≡ oam_length) }
-    ensures { access_outcome result left.now right.now nametables.now oam.now palette.now ≡
-        read_done port (state u (access_memory left.now right.now nametables.now oam.now palette.now)) }
+// An accepted read of a port. Inlined: several exports share it, and it would stay a call in each.
+#[inline(always)]
+#[tactic(auto, using(crate::proofs::Cases::unit_lent), unfolding(model::specs::Calls::read_done, model::specs::Ports::read_byte, model::specs::Ports::data_byte))]
+pub fn read(u: Ppu, port: u16, m: Lent) -> Access
+    requires { length m.nametables.now ≡ nametable_length u.board }
+    ensures { outcome_on result (accessed m.entry) ≡ read_done port (state u (accessed m.entry)) }
 {
-    let byte = read_byte(u, port, oam, palette);
-    let next = read_unit(u, port, byte, left, right, nametables, palette);
+    let byte = read_byte(u, port, m.oam, m.palette);
+    let next = read_unit(u, port, byte, m.tables, m.nametables, m.palette);
     unit::done(byte, next)
 }
 
-// What an accepted write hands back.
+// What an accepted write hands back. Inlined: shared by `write` and `write_kept`, it would stay a call in both.
+#[inline(always)]
 fn wrote(u: Ppu, port: u16, byte: u8) -> Access
     ensures { result ≡ access (done_answer 0 (wrote_unit port u byte)) (wrote_unit port u byte) }
 {
-    let next = registers::write_unit(u, port, byte);
-    unit::done(0, next)
+    unit::done(0, registers::write_unit(u, port, byte))
 }
 
-// An accepted write of a port.
+// An accepted write of a port. Slices whose lengths are required: `&mut` memories do not travel as one Lent, and a caller would make each array alone.
 pub fn write(
     u: Ppu,
     port: u16,
@@ -121,8 +107,7 @@ pub fn write(
     wrote(u, port, byte)
 }
 
-// An accepted write of a port, where pattern memory is not writable: the tables stay. `wrote` is put together once more: shared with `write` it would
-// stay a call in both.
+// An accepted write of a port, where pattern memory is not writable: the tables stay.
 pub fn write_kept(
     u: Ppu,
     port: u16,
@@ -139,31 +124,26 @@ pub fn write_kept(
 {
     memory::write_kept(u, port, byte, left, right, nametables, palette);
     memory::write_oam(u, port, byte, oam);
-    let next = registers::write_unit(u, port, byte);
-    unit::done(0, next)
+    wrote(u, port, byte)
 }
 
-// 256 writes of port 4 with the page's bytes in order.
-fn copy_page(u: Ppu, oam: &mut [u8], page: &[u8]) -> Ppu
-    requires { (length page.now ≡ page_length) × (length oam.old ≡ oam_length) }
-    ensures { copied result oam.new ≡ copy_of page.now (copied u oam.old) }
+// Writes of port 4 with the page's bytes in order.
+#[tactic(auto, unfolding(model::specs::Ports::dma_unit, model::specs::Ports::dma_oam))]
+fn copy_page(u: Ppu, oam: &mut [u8; 256], page: &[u8]) -> Ppu
+    ensures { (result ≡ dma_unit page.now u) × (oam.new ≡ dma_oam page.now u oam.old) }
 {
     let mut n = u;
-    let mut i: usize = 0;
-    while i < 256 {
-        let byte = page[i];
+    for &byte in page {
         memory::write_oam(n, 4, byte, oam);
         n = registers::write_unit(n, 4, byte);
-        i += 1;
     }
     n
 }
 
 // An accepted sprite DMA.
-pub fn dma(u: Ppu, oam: &mut [u8], page: &[u8]) -> Access
-    requires { (length oam.old ≡ oam_length) × (length page.now ≡ page_length) }
+#[tactic(auto, unfolding(model::specs::Calls::dma_done))]
+pub fn dma(u: Ppu, oam: &mut [u8; 256], page: &[u8; 256]) -> Access
     ensures { dma_outcome result oam.new ≡ dma_done page.now (state u (dma_memory oam.old)) }
 {
-    let next = copy_page(u, oam, page);
-    unit::done(0, next)
+    unit::done(0, copy_page(u, oam, page))
 }

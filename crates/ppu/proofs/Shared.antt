@@ -1,4 +1,4 @@
--- The ways of the shared calls for C, for `search`.
+-- A shared call for C, for each number.
 use Prim.Native.Nat.{ℕ, ◌/◌, ◌%◌, ◌≤◌, ◌<◌}
 use mathlib.Core.Path.{◌≡◌, refl, sym, ap, ◌∙◌}
 use mathlib.Core.Bool.{Bool, true, false, cond, not, ◌&&◌}
@@ -8,12 +8,12 @@ use lib.Dec.{eqb, ltb}
 use borrow.Author.Tests.{eqb-true, eqb-false, lt-ltb, le-ltb, ltb-true}
 use Rattle.model.specs.declared.Ppu.{Ppu}
 use Rattle.model.specs.declared.Access.{Access}
-use Rattle.model.specs.Unit.{Memory, line_memory, long, record_length, state}
+use Rattle.model.specs.Unit.{Memory, long, record_length, state}
 use Rattle.model.specs.Record.{at, board_at, unit_of}
-use Rattle.model.specs.Calls.{refused_access, load_call, Exported, exported, export_of, on_record, exported_call, own, Call, run_call, outcome_on, on_lent}
+use Rattle.model.specs.Calls.{refused_access, load_call, Exported, export_of, on_record, exported_call, own, Call, run_call, outcome_on, on_lent}
 use Rattle.model.proofs.Accepted.{is_made}
 use Rattle.model.proofs.Tests.{and_both, not_true}
-use Rattle.model_shared.specs.Shared.{unit_call, unit_on_record, unit_export, owned, machine, turn, left_by, shared_export}
+use Rattle.model_shared.specs.Shared.{unit_call, unit_on_record, unit_export, Machine, memory_of, turn, left_by, shared_export}
 use Rattle.model_shared.proofs.Laws.{run_begins}
 use Rattle.calls_shared_unit.specs.Cleared.{record_begins_shown}
 
@@ -21,9 +21,9 @@ use Rattle.calls_shared_unit.specs.Cleared.{record_begins_shown}
 board_low : (b : ℕ) → b < 8 → (board_at b).writable ≡ false
 board_low b h = let e : b / 8 % 2 ≡ 0 = omega arith in rw e
 
-pub run_shown : (why n : ℕ) (l : List ℕ) (m : Memory) → record_begins_shown l n ≡ true → exported_call (run_call own why n) l m ≡ unit_export (run_call own why n) l m
+pub run_shown : (why n : ℕ) (l : List ℕ) (m : Memory) → record_begins_shown l n ≡ true → unit_export (run_call own why n) l m ≡ exported_call (run_call own why n) l m
 unfolding exported_call unit_export on_record unit_on_record record_begins_shown unit_of
-run_shown why n l m e = ap (export_of l) (go (ltb why 3) (eqb (load_call l).answer.number 0) refl)
+run_shown why n l m e = sym (ap (export_of l) (go (ltb why 3) (eqb (load_call l).answer.number 0) refl))
   where
     on : on_lent (run_call own why n) (state (unit_of l) m) ≡ unit_call (run_call own why n) (state (unit_of l) m)
     on =
@@ -44,33 +44,17 @@ run_shown why n l m e = ap (export_of l) (go (ltb why 3) (eqb (load_call l).answ
     go false b q = refl
 
 -- BY NUMBER
-module _ (c : Call) (k : ℕ) (u v : List ℕ) (l r n n' o o' p p' b f : List ℕ) (z : ℕ) where
-  pub number_0 : (u₁ l₁ r₁ n₁ o₁ p₁ b₁ f₁ : List ℕ) → k ≡ 0 → exported z u₁ (line_memory l₁ r₁ n₁ o₁ p₁ b₁ f₁) ≡ unit_export c u (line_memory l r n o p b f)
-      → turn z (machine (owned u₁ n₁ o₁ p₁) (owned v n' o' p') l₁ r₁ b₁ f₁) ≡ shared_export k c (machine (owned u n o p) (owned v n' o' p') l r b f)
+module _ (k : ℕ) (c : Call) (m : Machine (List ℕ)) where
+  pub by_0 : k ≡ 0 → shared_export k c m ≡ (let e : Exported = unit_export c m.first.unit (memory_of 0 m) in turn e.result (left_by 0 e.bytes e.memory m))
   unfolding shared_export
-  number_0 u₁ l₁ r₁ n₁ o₁ p₁ b₁ f₁ h e = rw h (ap (λ (y : Exported). turn y.result (left_by 0 y.bytes y.memory (machine (owned u n o p) (owned v n' o' p') l r b f))) e)
+  by_0 h = rw h refl
 
-  pub number_1 : (u₁ l₁ r₁ n₁ o₁ p₁ b₁ f₁ : List ℕ) → k ≡ 1 → exported z u₁ (line_memory l₁ r₁ n₁ o₁ p₁ b₁ f₁) ≡ unit_export c v (line_memory l r n' o' p' b f)
-      → turn z (machine (owned u n o p) (owned u₁ n₁ o₁ p₁) l₁ r₁ b₁ f₁) ≡ shared_export k c (machine (owned u n o p) (owned v n' o' p') l r b f)
+  pub by_1 : k ≡ 1 → shared_export k c m ≡ (let e : Exported = unit_export c m.second.unit (memory_of 1 m) in turn e.result (left_by 1 e.bytes e.memory m))
   unfolding shared_export
-  number_1 u₁ l₁ r₁ n₁ o₁ p₁ b₁ f₁ h e = rw h (ap (λ (y : Exported). turn y.result (left_by 1 y.bytes y.memory (machine (owned u n o p) (owned v n' o' p') l r b f))) e)
+  by_1 h = rw h refl
 
-  pub number_7 : (k ≡ 0 → ⊥) → (k ≡ 1 → ⊥) → z ≡ 7 → turn z (machine (owned u n o p) (owned v n' o' p') l r b f) ≡ shared_export k c (machine (owned u n o p) (owned v n' o' p') l r b f)
+  pub by_7 : (k ≡ 0 → ⊥) → (k ≡ 1 → ⊥) → shared_export k c m ≡ turn 7 m
   unfolding shared_export
-  number_7 x y e = let ge : 2 ≤ k = omega (arith, x, y) in rw (le-ltb k 2 ge, e)
+  by_7 h i = let ge : 2 ≤ k = omega (arith, h, i) in rw (le-ltb k 2 ge) refl
 
-pub ruleset number_cases = (number_0, number_1, number_7)
-
--- a run that begins with one of lines 0 to 239
-module _ (why most k : ℕ) (u v : List ℕ) (l r n n' o o' p p' b f : List ℕ) (z : ℕ) (s : Bool) where
-  pub shown_0 : (u₁ b₁ f₁ : List ℕ) → k ≡ 0 → s ≡ record_begins_shown u most → s ≡ true
-      → exported z u₁ (line_memory l r n o p b₁ f₁) ≡ exported_call (run_call own why most) u (line_memory l r n o p b f)
-      → turn z (machine (owned u₁ n o p) (owned v n' o' p') l r b₁ f₁) ≡ shared_export k (run_call own why most) (machine (owned u n o p) (owned v n' o' p') l r b f)
-  shown_0 u₁ b₁ f₁ h e t x = number_0 (run_call own why most) k u v l r n n' o o' p p' b f z u₁ l r n o p b₁ f₁ h (x ∙ run_shown why most u (line_memory l r n o p b f) (sym e ∙ t))
-
-  pub shown_1 : (v₁ b₁ f₁ : List ℕ) → k ≡ 1 → s ≡ record_begins_shown v most → s ≡ true
-      → exported z v₁ (line_memory l r n' o' p' b₁ f₁) ≡ exported_call (run_call own why most) v (line_memory l r n' o' p' b f)
-      → turn z (machine (owned u n o p) (owned v₁ n' o' p') l r b₁ f₁) ≡ shared_export k (run_call own why most) (machine (owned u n o p) (owned v n' o' p') l r b f)
-  shown_1 v₁ b₁ f₁ h e t x = number_1 (run_call own why most) k u v l r n n' o o' p p' b f z v₁ l r n' o' p' b₁ f₁ h (x ∙ run_shown why most v (line_memory l r n' o' p' b f) (sym e ∙ t))
-
-pub ruleset run_number_cases = (shown_0, shown_1, number_0, number_1, number_7)
+pub ruleset number_cases = (by_0, by_1, by_7)

@@ -9,6 +9,7 @@ ghost use Rattle.model.specs.Ports.{stepped, greyed, status_byte, read_status};
 use model::Ppu;
 
 // The answer of port 2.
+#[tactic(auto, unfolding(model::specs::Ports::status_byte))]
 pub fn status_byte(u: Ppu) -> u8
     ensures { result ≡ status_byte u }
 {
@@ -20,11 +21,12 @@ pub fn palette_answer(u: Ppu, entry: u8) -> u8
     requires { entry < 64 }
     ensures { result ≡ u.latch / 64 * 64 + greyed u.mask entry }
 {
-    let top = u.latch / 64 * 64;
-    if u.mask % 2 == 1 {
-        return top + entry / 16 * 16;
-    }
-    top + entry
+    let shown = if u.mask % 2 == 1 {
+        entry / 16 * 16
+    } else {
+        entry
+    };
+    u.latch / 64 * 64 + shown
 }
 
 // The unit after a read whose answer only fills the latch.
@@ -35,6 +37,7 @@ pub fn fill_latch(u: Ppu, answer: u8) -> Ppu
 }
 
 // The unit after a read of port 2.
+#[tactic(auto, unfolding(model::specs::Ports::read_status))]
 pub fn read_status(u: Ppu, answer: u8) -> Ppu
     ensures { result ≡ read_status u answer }
 {
@@ -50,10 +53,9 @@ pub fn read_status(u: Ppu, answer: u8) -> Ppu
 pub fn read_data(u: Ppu, answer: u8, buffer: u8) -> Ppu
     ensures { result ≡ with_latch (with_buffer (stepped u) buffer) answer }
 {
-    let n = unit::step(u);
     Ppu {
-        buffer: buffer,
+        buffer,
         latch: answer,
-        ..n
+        ..unit::step(u)
     }
 }

@@ -1,6 +1,7 @@
 // The public call on a unit by value that runs lines: run. It has no `requires`: it refuses what it cannot take, 5 then 3 then 2, and a refused call
 // leaves the unit and every lent memory as they were. Within, for a reason that is known, the same with the colours lent as bytes, for C: run_bytes,
 // which does the work; for one line line_bytes, and undrawn_line for the unit alone of one that is not drawn.
+// A reason stays the number that C gives: an enum would be made of it here and unmade for scanline.
 #![tactic(auto)]
 
 ghost use Rattle.std.specs.Prelude.{◌≡◌, true, false, ◌&&◌, List, ℕ, ◌≤◌, ltb};
@@ -9,9 +10,11 @@ ghost use Rattle.model.specs.Colours.{numbers_of};
 ghost use Rattle.model.specs.Calls.{line_outcome, on_lent, run_call, own};
 ghost use Rattle.runs.specs.After.{after_line};
 
-use model::{Access, Ppu};
+use lent::Lent;
+use model::{Access, Ppu, Refusal};
 
-// A run of one line.
+// A run of one line. It stands beside run_bytes, so that it compiles to no loop and no table.
+#[tactic(auto, unfolding(model::specs::Calls::on_lent, model::specs::Calls::refusal_of, model::specs::Calls::plain_refusal, model::specs::Calls::order))]
 pub fn line_bytes(
     u: Ppu,
     reason: u8,
@@ -27,26 +30,18 @@ pub fn line_bytes(
     ensures { line_outcome result left.now right.now nametables.now oam.now palette.now line.new (numbers_of colours.new) ≡
         on_lent (run_call own reason 1) (state u (line_memory left.now right.now nametables.now oam.now palette.now line.old (numbers_of colours.old))) }
 {
-    let board = u.board;
-    let sized = refusals::line_sizes(
-        board,
-        left.len(),
-        right.len(),
-        nametables.len(),
-        oam.len(),
-        palette.len(),
-        line.len(),
-        colours.len(),
-    );
-    let n = refusals::plain_refusal(sized, u);
-    if n != 0 {
-        return unit::refused(n, u);
-    }
-    let one = scanline::one_line(
-        u, reason, left, right, nametables, oam, palette, line, colours,
-    );
-    let next = one.unit;
-    unit::ran(one.lines, one.met, next)
+    let m = match refusals::plain(Lent::new(u.board, left, right, nametables, oam, palette), u) {
+        Ok(m) => m,
+        Err(r) => return unit::refused(r as u8, u),
+    };
+    let Some(line) = line.as_mut_array::<256>() else {
+        return unit::refused(Refusal::Length as u8, u);
+    };
+    let Some(colours) = colours.as_mut_array::<512>() else {
+        return unit::refused(Refusal::Length as u8, u);
+    };
+    let one = scanline::one_line(u, reason, m, line, colours);
+    unit::ran(one.lines, one.met, one.unit)
 }
 
 // The answer and the unit of one line that is not drawn, accepted.
@@ -55,12 +50,12 @@ pub fn undrawn_line(u: Ppu, reason: u8) -> Access
     ensures { (l r n o p b f : List ℕ) → result ≡ after_line reason (state u (line_memory l r n o p b f)) }
 {
     let met = lines::meets_nmi(reason, u.control, u.scanline);
-    let next = scanline::undrawn_unit(u);
-    unit::ran(1, met, next)
+    unit::ran(1, met, scanline::undrawn_unit(u))
 }
 
 // At most `lines` lines, up to the one that meets the reason to stop: 0 none, 1 NMI, 2 status bit 6 from 0 to 1. It reports how many lines it
 // ran, and whether the reason was met.
+#[tactic(auto, unfolding(model::specs::Calls::on_lent, model::specs::Calls::refusal_of, model::specs::Calls::plain_refusal, model::specs::Calls::order))]
 pub fn run_bytes(
     u: Ppu,
     lines: u16,
@@ -77,29 +72,22 @@ pub fn run_bytes(
     ensures { line_outcome result left.now right.now nametables.now oam.now palette.now line.new (numbers_of colours.new) ≡
         on_lent (run_call own reason lines) (state u (line_memory left.now right.now nametables.now oam.now palette.now line.old (numbers_of colours.old))) }
 {
-    let board = u.board;
-    let sized = refusals::line_sizes(
-        board,
-        left.len(),
-        right.len(),
-        nametables.len(),
-        oam.len(),
-        palette.len(),
-        line.len(),
-        colours.len(),
-    );
-    let n = refusals::plain_refusal(sized, u);
-    if n != 0 {
-        return unit::refused(n, u);
-    }
-    let r = scanline::run(
-        u, lines, reason, left, right, nametables, oam, palette, line, colours,
-    );
-    let next = r.unit;
-    unit::ran(r.lines, r.met, next)
+    let m = match refusals::plain(Lent::new(u.board, left, right, nametables, oam, palette), u) {
+        Ok(m) => m,
+        Err(r) => return unit::refused(r as u8, u),
+    };
+    let Some(line) = line.as_mut_array::<256>() else {
+        return unit::refused(Refusal::Length as u8, u);
+    };
+    let Some(colours) = colours.as_mut_array::<512>() else {
+        return unit::refused(Refusal::Length as u8, u);
+    };
+    let r = scanline::run(u, lines, reason, m, line, colours);
+    unit::ran(r.lines, r.met, r.unit)
 }
 
 // The same, the colours as numbers.
+#[tactic(auto, unfolding(model::specs::Calls::on_lent, model::specs::Calls::refusal_of, model::specs::Calls::plain_refusal, model::specs::Calls::order))]
 pub fn run(
     u: Ppu,
     lines: u16,
@@ -116,16 +104,21 @@ pub fn run(
         on_lent (run_call own reason lines) (state u (line_memory left.now right.now nametables.now oam.now palette.now line.old colours.old)) }
 {
     if 2 < reason {
-        return unit::refused(5, u);
+        return unit::refused(Refusal::Request as u8, u);
     }
-    if colours.len() != 256 {
-        return unit::refused(refusals::plain_refusal(false, u), u);
-    }
+    let Some(numbers) = colours.as_mut_array::<256>() else {
+        let r = if unit::well_formed(u) {
+            Refusal::Length
+        } else {
+            Refusal::Unit
+        };
+        return unit::refused(r as u8, u);
+    };
     let mut bytes = [0u8; 512];
-    memory_pairs::put(colours, &mut bytes);
+    memory_pairs::put(numbers, &mut bytes);
     let a = run_bytes(
         u, lines, reason, left, right, nametables, oam, palette, line, &mut bytes,
     );
-    memory_pairs::take(&bytes, colours);
+    memory_pairs::take(&bytes, numbers);
     a
 }

@@ -89,9 +89,9 @@ module _ (u : Ppu) (l r n : List ℕ) where
       ∙ ap (λ (x : ℕ). cond (ltb p k) 0 x) (ap (λ (x : List ℕ). get_or x p 0) d ∙ get_or_tab (background_at u.board.wiring n (table_of (bit 16 u.control) l r) u.v u.x) 256 p lt)
       ∙ back_cut u.mask k p (background_on u l r n p) on e)
 
-  pub back_2 : (b b' : List ℕ) → bit 8 u.mask ≡ false → length b' ≡ 256 → ((p : ℕ) → get_or b' p 0 ≡ cond (ltb p 256) 0 (get_or b p 0)) → b' ≡ tab (back_of u l r n) 256
+  pub back_2 : (b' : List ℕ) → bit 8 u.mask ≡ false → length b' ≡ 256 → ((p : ℕ) → get_or b' p 0 ≡ 0) → b' ≡ tab (back_of u l r n) 256
   unfolding back_of background_shown
-  back_2 b b' off h c = tab_ext (back_of u l r n) 256 b' h (λ p lt. c p ∙ rw (lt-ltb p 256 lt, off))
+  back_2 b' off h z = tab_ext (back_of u l r n) 256 b' h (λ p lt. z p ∙ rw off)
 
 module _ (u : Ppu) (l r o : List ℕ) where
   -- the sprites: a row of winners cut and merged
@@ -139,17 +139,19 @@ module _ (u : Ppu) (l r n o : List ℕ) where
       (λ p lt. rw (e, get_or_tab (back_of u l r n) 256 p (omega arith), back_is u l r n p, lt-ltb p 255 lt))
       refl
 
-  pub drawn_off : (b b' : List ℕ) → is_rendering u ≡ false → length b' ≡ 256 → ((p : ℕ) → get_or b' p 0 ≡ cond (ltb p 256) 0 (get_or b p 0)) → b' ≡ picture u l r n o
+  pub drawn_off : (b' : List ℕ) → is_rendering u ≡ false → length b' ≡ 256 → ((p : ℕ) → get_or b' p 0 ≡ 0) → b' ≡ picture u l r n o
   unfolding picture pixel_of
-  drawn_off b b' off h c = tab_ext (pixel_of u l r n o) 256 b' h (λ p lt. c p ∙ rw (lt-ltb p 256 lt, off))
+  drawn_off b' off h z = tab_ext (pixel_of u l r n o) 256 b' h (λ p lt. z p ∙ rw off)
 
 -- no sprite on the line
-module _ (u : Ppu) (l r o list : List ℕ) (count : ℕ) (z : count ≡ 0) (few : count ≤ 8) (long : length list ≡ 65)
+module _ (u : Ppu) (l r o list : List ℕ) (count : ℕ) (z : count ≡ 0)
     (e : take count list ≡ cond (eqb u.scanline 0) [] (take 8 (places_of (covers u.control o (u.scanline - 1)) 64))) where
   pub over_3 : (b : List ℕ) → length b ≡ 256 → b ≡ over_line u l r o b
   unfolding over_line over_of
-  over_3 b h = unmerged b (over_of u l r o) h (λ p. over_nothing u.mask p (sprite_on u.control l r o u.scanline p) (none_on u.control u.scanline count o list few long e z l r p))
+  over_3 b h = unmerged b (over_of u l r o) h (λ p. over_nothing u.mask p (sprite_on u.control l r o u.scanline p) (none_on u.control u.scanline o (take count list) e (rw z) l r p))
 
   pub hit_3 : (b : List ℕ) → false ≡ hit_line u l r o b
   unfolding hit_line zero_of
-  hit_3 b = any_none (λ (p : ℕ). get_or b p 0) (zero_of u l r o) 255 (λ p. over_nothing u.mask p (sprite_zero_on u.control l r o u.scanline p) (none_zero u.control u.scanline count o list few long e z l r p))
+  hit_3 b = any_none (λ (p : ℕ). get_or b p 0) (zero_of u l r o) 255 (λ p. over_nothing u.mask p (sprite_zero_on u.control l r o u.scanline p) (none_zero u.control u.scanline o (take count list) e (rw z) l r p))
+
+pub ruleset none_shown = (over_2, hit_2, over_3, hit_3)

@@ -1,25 +1,16 @@
--- What the drawing of a line requires, and its steps: the background as shown, the sprites over it, the flags.
-use Rattle.std.specs.Prelude.{◌≡◌, Bool, false, ◌&&◌, List, ℕ, ltb, length, get_or}
+-- What a run comes to, and the steps of the drawing of a line: the background as shown, the sprites over it, the flags.
+use Rattle.std.specs.Prelude.{◌≡◌, Bool, false, ◌&&◌, List, ℕ, ltb, get_or}
 use Rattle.model.specs.declared.Ppu.{Ppu}
 use Rattle.model.specs.declared.Board.{Board}
-use Rattle.model.specs.Unit.{State, unit, pattern_length, nametable_length, oam_length, palette_length, line_length}
+use Rattle.model.specs.Unit.{State, unit, line_length}
 use Rattle.model.specs.Background.{background_shown}
 use Rattle.model.specs.Sprites.{sprite_on, sprite_zero_on, sprite_shown}
-use Rattle.model.specs.Line.{tab, any_of, merged, background_on, lines_run, line_count, reason_met}
+use Rattle.model.specs.Line.{tab, any_of, merged, background_on, one_line, lines_run, meets_reason, line_count, reason_met}
 
--- the lengths of what a line is lent
-pub record LineLengths (d : Board) (l r n o b : List ℕ) : Type 0 where
-  pub left : length l ≡ pattern_length
-  pub right : length r ≡ pattern_length
-  pub nametables : length n ≡ nametable_length d
-  pub oam : length o ≡ oam_length
-  pub line : length b ≡ line_length
-
--- and of what a run is lent, its colours as bytes
-pub record RunLengths (d : Board) (l r n o p b f : List ℕ) : Type 0 where
-  pub drawn : LineLengths d l r n o b
-  pub palette : length p ≡ palette_length
-  pub colours : length f ≡ 512
+-- a line of a run from s: the state after it, and whether it meets the reason to stop
+pub record IsLine (why : ℕ) (s t : State) (met : Bool) : Type 0 where
+  pub after : t ≡ one_line s
+  pub reason : met ≡ meets_reason why s.unit (one_line s).unit
 
 -- a run of at most n lines from s, by its reason to stop: the lines it runs, whether the reason is met, and the state after it
 pub record IsRun (why n : ℕ) (s : State) (lines : ℕ) (met : Bool) (t : State) : Type 0 where

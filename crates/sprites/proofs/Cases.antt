@@ -1,7 +1,7 @@
 -- The ways of each function, for `search`.
 use Prim.Native.Nat.{ℕ, ◌+◌, ◌-◌, ◌*◌, ◌/◌, ◌%◌, ◌<◌, ◌≤◌}
 use mathlib.Core.Path.{◌≡◌, ◌∙◌}
-use mathlib.Core.Bool.{true, false, cond}
+use mathlib.Core.Bool.{Bool, false, cond}
 use mathlib.Core.List.{List}
 use mathlib.Core.Logic.{⊎_elim}
 use native.Mathlib.Omega.{arith}
@@ -11,7 +11,7 @@ use lib.ListN.{length, get_or}
 use Rattle.model.specs.declared.Sprite.{Sprite}
 use Rattle.model.specs.Unit.{bit}
 use Rattle.model.specs.Background.{colour_of, number_of}
-use Rattle.model.specs.Sprites.{oam_at, height, covers, fetched, shade}
+use Rattle.model.specs.Sprites.{oam_at, height, covers, shade}
 use Rattle.model.proofs.Scroll.{lt_or_ge}
 use Rattle.words.specs.Pack.{pack, byte_of}
 use Rattle.pixels.specs.Row.{over_tab}
@@ -19,28 +19,20 @@ use Rattle.pixels.proofs.Over.{over_shade}
 use Rattle.choice.proofs.Places.{y_at}
 
 module _ (c : ℕ) (o : List ℕ) (n i y : ℕ) (e : y ≡ get_or o (4 * i) 0) where
-  pub covering_1 : n < y → false ≡ covers c o n i
+  pub covering_1 : (b : Bool) → n < y → b ≡ false → b ≡ covers c o n i
   unfolding covers
-  covering_1 p = rw (lt-leb (oam_at o i 0) n (omega (arith, y_at o i)))
+  covering_1 b p z = z ∙ rw (lt-leb (oam_at o i 0) n (omega (arith, y_at o i)))
 
-  pub covering_2 : (g h : ℕ) → y ≤ n → h ≡ g → g ≡ height c → ltb (n - y) h ≡ covers c o n i
+  pub covering_2 : (b : Bool) (h : ℕ) → y ≤ n → b ≡ ltb (n - y) h → h ≡ height c → b ≡ covers c o n i
   unfolding covers
-  covering_2 g h p w f =
+  covering_2 b h p z f =
+      z ∙
       ⊎_elim
       (λ (lt : n - y < h). rw (lt-ltb (n - y) h lt, le-leb (oam_at o i 0) n (omega (arith, y_at o i)), lt-ltb n (oam_at o i 0 + height c) (omega (arith, y_at o i))))
       (λ (ge : h ≤ n - y). rw (le-ltb (n - y) h ge, le-leb (oam_at o i 0) n (omega (arith, y_at o i)), le-ltb n (oam_at o i 0 + height c) (omega (arith, y_at o i))))
       (lt_or_ge (n - y) h)
 
 pub ruleset covering_cases = (covering_1, covering_2)
-
-module _ (c n m i k : ℕ) (o list : List ℕ) (d : m ≡ n - 1) (e : k ≡ get_or list i 0) where
-  pub listed_1 : covers c o (n - 1) (get_or list i 0) ≡ true → covers c o m k ≡ true
-  listed_1 h = rw (d, e) h
-
-  pub listed_2 : (left right : List ℕ) (s : Sprite) → s ≡ fetched c left right o m k → s ≡ fetched c left right o (n - 1) (get_or list i 0)
-  listed_2 left right s z = z ∙ rw (d, e)
-
-pub ruleset listed_cases = (listed_1, listed_2)
 
 pub put_1 : (s : Sprite) (at n : ℕ) (row row' : List ℕ) → length row ≡ 264 → at ≡ s.x → at < 256
     → n ≡ pack (λ (j : ℕ). number_of (4 + s.attribute % 4 + s.attribute / 32 % 2 * 8) (colour_of s.low s.high (cond (bit 64 s.attribute) j (7 - j)))) 8

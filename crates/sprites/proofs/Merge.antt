@@ -1,11 +1,11 @@
 -- The sprites' row over a line, sprite by sprite: a column of a sprite is merged, any other stays, and merging twice is merging once.
-use Prim.Native.Nat.{ℕ, ◌+◌, ◌<◌, ◌≤◌}
+use Prim.Native.Nat.{ℕ, ◌+◌, ◌<◌, ◌≤◌, min}
 use mathlib.Core.Path.{◌≡◌, refl, ap, sym, ◌∙◌}
-use mathlib.Core.Bool.{false, cond, ◌&&◌}
+use mathlib.Core.Bool.{false, ◌&&◌}
 use mathlib.Core.Logic.{◌⊎◌, inl, inr, ⊎_elim}
 use mathlib.Core.List.{List}
 use native.Mathlib.Omega.{arith}
-use borrow.Author.Tests.{le-leb, lt-leb, lt-ltb, le-ltb}
+use borrow.Author.Tests.{le-leb, lt-leb, le-ltb}
 use lib.Dec.{leb, ltb}
 use lib.ListN.{length, get_or}
 use Rattle.model.specs.Line.{tab, merged}
@@ -23,22 +23,21 @@ out_before x p h = rw (lt-leb x p h)
 out_after : (x p : ℕ) → x + 8 ≤ p → (leb x p && ltb p (x + 8)) ≡ false
 out_after x p h = rw (le-leb x p (omega arith), le-ltb p (x + 8) h)
 
-module _ (b s o list : List ℕ) (count : ℕ) where
+module _ (b s o list : List ℕ) where
   -- a column of the line l after i sprites
   abbrev Column : List ℕ → ℕ → ℕ → Type 0
   Column l i p = (get_or l p 0 ≡ merged (get_or b p 0) (get_or s p 0)) ⊎ ((get_or l p 0 ≡ get_or b p 0) × Beside o list i p)
 
   pub record Laid (l : List ℕ) (i : ℕ) : Type 0 where
-    pub room : i ≤ count
     pub long : length l ≡ 256
     pub each : (p : ℕ) → p < 256 → Column l i p
 
   pub laid_start : (h : length b ≡ 256) → Laid b 0
-  laid_start h = record { room = omega arith; long = h; each = λ p lt. inr (refl, λ k none. absurd (omega arith)) }
+  laid_start h = record { long = h; each = λ p lt. inr (refl, λ k none. absurd (omega arith)) }
 
   module _ (l : List ℕ) (i : ℕ) (m : Laid l i) where
     -- the sprite's own columns are among those from `at` on
-    module _ (l' : List ℕ) (at x k : ℕ) (e : at ≡ cond (ltb x 248) x 248) (d : x ≡ oam_at o k 3) (g : k ≡ get_or list i 0) (f : (p : ℕ) → get_or l' p 0 ≡ merged_in l s at 8 p) where
+    module _ (l' : List ℕ) (at x k : ℕ) (e : at ≡ min x 248) (d : x ≡ oam_at o k 3) (g : k ≡ get_or list i 0) (f : (p : ℕ) → get_or l' p 0 ≡ merged_in l s at 8 p) where
       here : (p : ℕ) → at ≤ p → p < at + 8 → Column l i p → get_or l' p 0 ≡ merged (get_or b p 0) (get_or s p 0)
       here p h u old =
           f p
@@ -71,18 +70,17 @@ module _ (b s o list : List ℕ) (count : ℕ) where
           (lt_or_ge p at)
         where
           before : p < at → p < x
-          before lt = ⊎_elim (λ (a : x < 248). omega (arith, rw (lt-ltb x 248 a) at e)) (λ (a : 248 ≤ x). omega (arith, rw (le-ltb x 248 a) at e)) (lt_or_ge x 248)
+          before lt = omega (arith, e)
 
           after : at + 8 ≤ p → x + 8 ≤ p
-          after past = ⊎_elim (λ (a : x < 248). omega (arith, rw (lt-ltb x 248 a) at e)) (λ (a : 248 ≤ x). omega (arith, rw (le-ltb x 248 a) at e)) (lt_or_ge x 248)
+          after past = omega (arith, e)
 
-      pub laid_more : i < count → length l' ≡ length l → Laid l' (i + 1)
-      laid_more lt h = record { room = omega arith; long = h ∙ m.long; each = λ p small. next p small (m.each p small) }
+      pub laid_more : length l' ≡ length l → Laid l' (i + 1)
+      laid_more h = record { long = h ∙ m.long; each = λ p small. next p small (m.each p small) }
 
-    pub laid_done : count ≤ i → ((p : ℕ) → Beside o list count p → get_or s p 0 ≡ 0) → l ≡ tab (λ (p : ℕ). merged (get_or b p 0) (get_or s p 0)) 256
+    pub laid_done : i ≡ length list → ((p : ℕ) → Beside o list (length list) p → get_or s p 0 ≡ 0) → l ≡ tab (λ (p : ℕ). merged (get_or b p 0) (get_or s p 0)) 256
     unfolding merged
-    laid_done ge none =
-        let z : i ≡ count = omega (arith, m.room) in
+    laid_done z none =
         tab_ext (λ (p : ℕ). merged (get_or b p 0) (get_or s p 0)) 256 l m.long
         (λ p lt.
         ⊎_elim

@@ -1,14 +1,15 @@
 -- The sprites that a line shows, in the choice's list and in the row; put one after the other, the first opaque pixel of each column stays.
-use Prim.Native.Nat.{ℕ, zero, suc, ◌+◌, ◌-◌, ◌*◌, ◌/◌, ◌%◌, ◌<◌, ◌≤◌}
+use Prim.Native.Nat.{ℕ, suc, ◌+◌, ◌-◌, ◌*◌, ◌/◌, ◌%◌, ◌<◌, ◌≤◌}
 use mathlib.Core.Path.{◌≡◌, refl, ap, sym, ◌∙◌}
 use mathlib.Core.Bool.{Bool, true, false, cond, ◌&&◌, and-false}
 use mathlib.Core.Logic.{⊎_elim}
-use mathlib.Core.List.{List, [], ◌∷◌, ◌++◌, map, map-append}
+use mathlib.Core.List.{List, [], ◌∷◌, ◌++◌, map}
 use native.Mathlib.Omega.{arith}
 use borrow.Author.Tests.{ne_eqb, lt-ltb}
 use lib.Dec.{eqb, ltb, leb}
 use lib.ListN.{length, get_or, take}
-use lib.Seq.{take-suc, take_all, get_or-take, length-take-le}
+use lib.Seq.{take_all, get_or-take}
+use Rattle.std.proofs.lemmas.List.{length-take}
 use Rattle.model.specs.declared.Sprite.{Sprite}
 use Rattle.model.specs.Unit.{bit}
 use Rattle.model.specs.Background.{colour_of, number_of}
@@ -53,31 +54,41 @@ unfolding shade fetched
 beside_shade c m left right o p i e = rw e
 
 -- ---- the list that the choice leaves
-module _ (c n count : ℕ) (o list : List ℕ) (few : count ≤ 8) (long : length list ≡ 65) (e : take count list ≡ cond (eqb n 0) [] (take 8 (places_of (covers c o (n - 1)) 64))) where
-  full : length (take count list) ≡ count
-  full = length-take-le count list (omega arith)
+module _ (c n : ℕ) (o list : List ℕ) (e : list ≡ cond (eqb n 0) [] (take 8 (places_of (covers c o (n - 1)) 64))) where
+  pub few : length list ≤ 8
+  few = rw e (by_test (eqb n 0) (places_of (covers c o (n - 1)) 64))
+    where
+      by_test : (b : Bool) (l : List ℕ) → length (cond b [] (take 8 l)) ≤ 8
+      by_test true l = omega arith
+      by_test false l = omega (arith, length-take 8 l)
 
   -- on line 0 it is empty
-  none : n ≡ 0 → count ≡ 0
-  none z = sym full ∙ ap length e ∙ rw z
+  none : n ≡ 0 → length list ≡ 0
+  none z = ap length e ∙ rw z
 
-  some : (j : ℕ) → j < count → take count list ≡ take 8 (places_of (covers c o (n - 1)) 64)
+  some : (j : ℕ) → j < length list → list ≡ take 8 (places_of (covers c o (n - 1)) 64)
   some j lt = e ∙ rw (ne_eqb n 0 (λ z. omega (arith, none z)))
 
-  pub listed_at : (j : ℕ) → j < count → (get_or list j 0 < 64) × (covers c o (n - 1) (get_or list j 0) ≡ true)
+  pub listed_at : (j : ℕ) → j < length list → (get_or list j 0 < 64) × (covers c o (n - 1) (get_or list j 0) ≡ true)
   listed_at j lt =
       let P : List ℕ = places_of (covers c o (n - 1)) 64 in
-      let g : get_or list j 0 ≡ get_or P j 0 =
-      sym (get_or-take count list j 0 lt) ∙ ap (λ (l : List ℕ). get_or l j 0) (some j lt) ∙ get_or-take 8 P j 0 (omega arith) in
+      let g : get_or list j 0 ≡ get_or P j 0 = ap (λ (l : List ℕ). get_or l j 0) (some j lt) ∙ get_or-take 8 P j 0 (omega (arith, few)) in
       let w : j < length P =
       ⊎_elim
       (λ (h : j < length P). h)
-      (λ (h : length P ≤ j). absurd (omega (arith, full, ap length (some j lt ∙ take_all 8 P (omega arith)))))
+      (λ (h : length P ≤ j). absurd (omega (arith, ap length (some j lt ∙ take_all 8 P (omega (arith, few))))))
       (lt_or_ge j (length P)) in
       rw g (places_at (covers c o (n - 1)) 64 j w)
 
+  module _ (j i : ℕ) (lt : j < length list) (z : i ≡ get_or list j 0) where
+    pub listed_small : i < 64
+    listed_small = rw z (listed_at j lt).0
+
+    pub listed_covers : (m : ℕ) → m ≡ n - 1 → covers c o m i ≡ true
+    listed_covers m d = rw (z, d) (listed_at j lt).1
+
   -- it has the line's sprites
-  pub shown_listed : (left right : List ℕ) → map (fetched c left right o (n - 1)) (take count list) ≡ shown_on c left right o n
+  pub shown_listed : (left right : List ℕ) → map (fetched c left right o (n - 1)) list ≡ shown_on c left right o n
   unfolding shown_on chosen
   shown_listed left right = rw e (by_test (eqb n 0))
     where
@@ -87,27 +98,21 @@ module _ (c n count : ℕ) (o list : List ℕ) (few : count ≤ 8) (long : lengt
       by_test false = refl
 
   -- in a column beside all of them no sprite is drawn
-  pub beside_none : (left right : List ℕ) (p : ℕ) → Beside o list count p → sprite_on c left right o n p ≡ 0
+  pub beside_none : (left right : List ℕ) (p : ℕ) → Beside o list (length list) p → sprite_on c left right o n p ≡ 0
   unfolding winner
-  beside_none left right p h = sym (winner_shown c n left right o p) ∙ rw (← shown_listed left right) (beside_winner left right p count (omega arith) h)
+  beside_none left right p h = sym (winner_shown c n left right o p) ∙ rw (← shown_listed left right) (beside_winner left right p list h)
     where
-      beside_winner : (left right : List ℕ) (p k : ℕ) → k ≤ 65 → Beside o list k p → winner (map (fetched c left right o (n - 1)) (take k list)) p ≡ 0
-      beside_winner left right p zero room h = refl
-      beside_winner left right p (suc k) room h =
-          rw (
-            take-suc list k 0 (omega arith),
-            map-append (fetched c left right o (n - 1)) (take k list) (get_or list k 0 ∷ []),
-            winner_more (map (fetched c left right o (n - 1)) (take k list)) (fetched c left right o (n - 1) (get_or list k 0)) p,
-            beside_winner left right p k (omega arith) (λ j lt. h j (omega arith)),
-          )
-          (beside_shade c (n - 1) left right o p (get_or list k 0) (h k (omega arith)))
+      beside_winner : (left right : List ℕ) (p : ℕ) (l : List ℕ) → Beside o l (length l) p → winner (map (fetched c left right o (n - 1)) l) p ≡ 0
+      beside_winner left right p [] h = refl
+      beside_winner left right p (k ∷ l) h =
+          rw (beside_shade c (n - 1) left right o p k (h 0 (omega arith))) (beside_winner left right p l (λ j lt. h (suc j) (omega arith)))
 
   -- where it is empty no sprite is drawn, nor is sprite 0
-  pub none_on : count ≡ 0 → (left right : List ℕ) (p : ℕ) → sprite_on c left right o n p ≡ 0
+  pub none_on : list ≡ [] → (left right : List ℕ) (p : ℕ) → sprite_on c left right o n p ≡ 0
   unfolding winner
   none_on z left right p = sym (winner_shown c n left right o p) ∙ rw (← shown_listed left right, z)
 
-  pub none_zero : count ≡ 0 → (left right : List ℕ) (p : ℕ) → sprite_zero_on c left right o n p ≡ 0
+  pub none_zero : list ≡ [] → (left right : List ℕ) (p : ℕ) → sprite_zero_on c left right o n p ≡ 0
   unfolding sprite_zero_on
   none_zero z left right p =
       ⊎_elim

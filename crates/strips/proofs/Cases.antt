@@ -1,33 +1,20 @@
 -- The ways of each function, for `search`.
-use Prim.Native.Nat.{ℕ, ◌+◌, ◌-◌, ◌*◌, ◌/◌, ◌%◌, ◌^◌, ◌<◌, ◌≤◌}
-use mathlib.Core.Path.{◌≡◌, ◌∙◌}
+use Prim.Native.Nat.{ℕ, ◌+◌, ◌-◌, ◌*◌, ◌/◌, ◌%◌, ◌^◌, ◌<◌}
+use mathlib.Core.Path.{◌≡◌, refl, ◌∙◌}
 use mathlib.Core.List.{List}
 use native.Mathlib.Omega.{arith}
 use native.Mathlib.Nat.{add-zero, add_assoc}
 use lib.Pow.{shr-shr}
 use lib.ListN.{get_or}
-use Rattle.model.specs.declared.Wiring.{Wiring}
-use Rattle.model.specs.Address.{page_at, wiring_number}
-use Rattle.model.specs.Scroll.{fine_y, row}
 use Rattle.model.specs.Background.{number_of, colour_of}
 use Rattle.pixels.specs.Row.{store_tab}
 use Rattle.pixels.proofs.Store.{store_cong, store_split}
 use Rattle.strips.specs.declared.Strip.{Strip}
-use Rattle.strips.specs.Strips.{strip_of, palette_of, column_pixel, strip_pixel}
+use Rattle.strips.specs.Strips.{palette_of, column_pixel, strip_pixel}
 
-module _ (w : Wiring) (q v p r h f : ℕ) (s : Strip) where
-  pub strip_1 : p ≡ page_at (wiring_number w) q → r ≡ row v → h ≡ r / 2 % 2 → f ≡ fine_y v
-      → s ≡ record { tiles = 1024 * p + 32 * r; attributes = 1024 * p + 960 + 8 * (r / 4); quadrant = 4 * h; fine = f } → s ≡ strip_of w q v
-  strip_1 a b c d e = e ∙ rw (d, c, b, a)
-
-pub ruleset strip_cases = (strip_1)
-
-module _ (n : List ℕ) (s : Strip) (c h r : ℕ) where
-  pub palette_1 : h ≡ c / 2 % 2 → r ≡ get_or n (s.attributes + c / 4) 0 / 2 ^ s.quadrant / 2 ^ (2 * h) % 4 → r ≡ palette_of n s c
-  unfolding palette_of
-  palette_1 a e = e ∙ rw (shr-shr (get_or n (s.attributes + c / 4) 0) s.quadrant (2 * h), a)
-
-pub ruleset palette_cases = (palette_1)
+pub palette_1 : (n : List ℕ) (s : Strip) (c : ℕ) → get_or n (s.attributes + c / 4) 0 / 2 ^ s.quadrant / 2 ^ (2 * (c / 2 % 2)) % 4 ≡ palette_of n s c
+unfolding palette_of
+palette_1 n s c = rw shr-shr
 
 module _ (table n : List ℕ) (s : Strip) (c : ℕ) where
   strip_first : (j : ℕ) → j < 8 → column_pixel table n s c j ≡ strip_pixel table n s c j
@@ -52,14 +39,12 @@ module _ (table n : List ℕ) (s : Strip) (c : ℕ) where
       rw (d, e, store_split (strip_pixel table n s c) at (8 * k) m l)
       (store_cong _ (λ (j : ℕ). strip_pixel table n s c (8 * k + j)) (at + 8 * k) m _ (λ j h. strip_from k j))
 
-module _ (table n l l' : List ℕ) (s : Strip) (c at tile q : ℕ) where
-  pub column_1 : tile ≡ get_or n (s.tiles + c) 0 → q ≡ palette_of n s c
-      → l' ≡ store_tab (λ (j : ℕ). number_of q (colour_of (get_or table (16 * tile + s.fine) 0) (get_or table (16 * tile + s.fine + 8) 0) (7 - j))) at 8 l
+module _ (table n l l' : List ℕ) (s : Strip) (c at q : ℕ) where
+  pub column_1 : q ≡ palette_of n s c
+      → l' ≡ store_tab (λ (j : ℕ). number_of q (colour_of (get_or table (16 * get_or n (s.tiles + c) 0 + s.fine) 0) (get_or table (16 * get_or n (s.tiles + c) 0 + s.fine + 8) 0) (7 - j))) at 8 l
       → l' ≡ store_tab (strip_pixel table n s c) at 8 l
   unfolding column_pixel
-  column_1 a b e = e ∙ rw (b, a) (store_cong _ _ at 8 l (strip_first table n s c))
-
-pub ruleset column_cases = (column_1)
+  column_1 a e = e ∙ rw a (store_cong _ _ at 8 l (strip_first table n s c))
 
 module _ (table n l l' l'' : List ℕ) (s : Strip) (c at q : ℕ) where
   -- the tile to the right has the same palette
@@ -81,8 +66,6 @@ module _ (table n l l' l'' : List ℕ) (s : Strip) (g at : ℕ) where
       → l'' ≡ store_tab (strip_pixel table n s (4 * g)) at 32 l
   group_1 = strip_more table n s (4 * g) l l' l'' at 2 16
 
-pub ruleset group_cases = (group_1)
-
 module _ (table n l l' l'' : List ℕ) (s : Strip) (g at t m : ℕ) where
   -- one group more
   pub run_more : l' ≡ store_tab (strip_pixel table n s (4 * g)) (32 * at) (32 * t) l
@@ -95,7 +78,8 @@ module _ (table n l l' l'' : List ℕ) (s : Strip) (g at t m : ℕ) where
       let j : 4 * (g + t) ≡ 4 * g + 4 * t = omega arith in
       rw i (strip_more table n s (4 * g) l l' l'' (32 * at) (4 * t) 32 (e ∙ rw a) (d ∙ rw (b, j)))
 
-  pub run_done_lem : t ≤ m → m ≤ t → l' ≡ store_tab (strip_pixel table n s (4 * g)) (32 * at) (32 * t) l → l' ≡ store_tab (strip_pixel table n s (4 * g)) (32 * at) (32 * m) l
-  run_done_lem a b e = let d : t ≡ m = omega arith in rw d at e
+  pub run_start : l ≡ store_tab (strip_pixel table n s (4 * g)) (32 * at) (32 * 0) l
+  unfolding store_tab
+  run_start = refl
 
-pub ruleset run_cases = (run_more, run_done_lem)
+pub ruleset run_cases = (run_start, run_more)

@@ -40,10 +40,6 @@ column_pixel table n s c j =
 unfoldable pub strip_pixel : List ℕ → List ℕ → Strip → ℕ → ℕ → ℕ
 strip_pixel table n s c i = column_pixel table n s (c + i / 8) (i % 8)
 
--- pixel p of a row from its pixel x on
-unfoldable pub shifted : List ℕ → ℕ → ℕ → ℕ
-shifted b x p = get_or b (x + p) 0
-
 -- the quarter left or right of q: v's nametable with bit 10 turned
 abbrev pub beside_of : ℕ → ℕ
 beside_of q = q + 1 - 2 * (q % 2)

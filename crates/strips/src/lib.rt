@@ -1,14 +1,15 @@
-// Strips: rows of tiles in one page of nametable RAM. Inner functions, not public calls: they require lengths and bounds.
+// Strips: rows of tiles in one page of nametable RAM. Inner functions, not public calls: they require bounds.
 // Four tiles share an attribute byte, so whole groups of four are drawn.
-// strip_at: what is the same for all tiles of a strip. palette_at, put_column, put_pair, put_group, run: one tile, two, four, n groups.
+// strip_at: what is the same for all tiles of a strip. Source: a strip with what it is drawn from.
+// Its palette_at, put_column, put_pair, put_group, and run: one tile, two, four, n groups.
 #![tactic(auto)]
 
 ghost use Rattle.std.specs.Prelude.{◌≡◌, ◌+◌, ◌*◌, ◌%◌, ◌<◌, ◌≤◌, length};
-ghost use Rattle.model.specs.Unit.{pattern_length, nametable_length};
+ghost use Rattle.model.specs.Unit.{nametable_length};
 ghost use Rattle.pixels.specs.Row.{store_tab};
 ghost use Rattle.strips.specs.Strips.{row_length, strip_of, Within, palette_of, strip_pixel};
 
-use bits::{field, low, wide};
+use bits::field;
 use model::Board;
 use pixels::put_tile;
 
@@ -29,98 +30,92 @@ pub fn strip_at(board: Board, quarter: usize, v: usize) -> Strip
     requires { quarter < 4 }
     ensures { (result ≡ strip_of board.wiring quarter v) × Within result (nametable_length board) }
 {
-    let wiring = board.wiring;
-    let base = 1024 * address::page(wiring, quarter);
-    let row = low(v >> 5, 5);
-    let tiles = base + 32 * row;
-    let attributes = base + 960 + 8 * (row >> 2);
-    let quadrant = 4 * low(row >> 1, 1);
-    let fine = low(v >> 12, 3);
+    let base = 1024 * address::page(board.wiring, quarter);
+    let row = v >> 5 & 31;
     Strip {
-        tiles,
-        attributes,
-        quadrant,
-        fine,
+        tiles: base + 32 * row,
+        attributes: base + 960 + 8 * (row >> 2),
+        quadrant: 4 * (row >> 1 & 1),
+        fine: v >> 12 & 7,
     }
 }
 
-// The palette of the tile in a column: two bits of its attribute byte.
-fn palette_at(nametables: &[u8], s: Strip, column: usize) -> u8
-    requires { Within s (length nametables.now) × (column < 32) }
-    ensures { (result ≡ palette_of nametables.now s column) × (result < 4) }
-{
-    let attribute = nametables[s.attributes + (column >> 2)] >> s.quadrant;
-    field(attribute, 2 * low(column >> 1, 1), 2)
+// A strip with what it is drawn from: a pattern table and nametable RAM.
+#[derive(Clone, Copy)]
+struct Source<'a> {
+    table: &'a [u8; 4096],
+    nametables: &'a [u8],
+    strip: Strip,
+    ghost within: { Within strip (length nametables.now) },
 }
 
-// Eight pixels of the tile in a column.
-fn put_column(
-    table: &[u8],
-    nametables: &[u8],
-    s: Strip,
-    column: usize,
-    palette: u8,
-    row: &mut [u8],
-    at: usize,
-)
-    requires { (length table.now ≡ pattern_length) × Within s (length nametables.now) × (column < 32)
-        × (palette ≡ palette_of nametables.now s column) × (palette < 4) × (at + 8 ≤ length row.old) }
-    ensures { row.new ≡ store_tab (strip_pixel table.now nametables.now s column) at 8 row.old }
-{
-    let tile = wide(nametables[s.tiles + column]);
-    let byte = 16 * tile + s.fine;
-    let plane0 = table[byte];
-    let plane1 = table[byte + 8];
-    put_tile(row, at, plane0, plane1, palette);
-}
+impl Source<'_> {
+    // The palette of the tile in a column: two bits of its attribute byte.
+    #[tactic(auto, using(crate::proofs::Cases::palette_1, std::proofs::lemmas::Grind::and_numeral))]
+    fn palette_at(self, column: usize) -> u8
+        requires { column < 32 }
+        ensures { (result ≡ palette_of self.entry.nametables.now self.entry.strip column) × (result < 4) }
+    {
+        let attribute = self.nametables[self.strip.attributes + (column >> 2)]
+            >> self.strip.quadrant;
+        field(attribute, 2 * (column >> 1 & 1), 2)
+    }
 
-// Two tiles that share a palette.
-fn put_pair(
-    table: &[u8],
-    nametables: &[u8],
-    s: Strip,
-    column: usize,
-    palette: u8,
-    row: &mut [u8],
-    at: usize,
-)
-    requires { (length table.now ≡ pattern_length) × Within s (length nametables.now) × (column < 32) × (column % 2 ≡ 0)
-        × (palette ≡ palette_of nametables.now s column) × (palette < 4) × (at + 16 ≤ length row.old) }
-    ensures { row.new ≡ store_tab (strip_pixel table.now nametables.now s column) at 16 row.old }
-{
-    put_column(table, nametables, s, column, palette, row, at);
-    put_column(table, nametables, s, column + 1, palette, row, at + 8);
-}
+    // Eight pixels of the tile in a column.
+    fn put_column(self, column: usize, palette: u8, row: &mut [u8; 288], at: usize)
+        requires { (column < 32) × (palette ≡ palette_of self.nametables.now self.strip column) × (palette < 4) × (at + 8 ≤ row_length) }
+        ensures { row.new ≡ store_tab (strip_pixel self.entry.table.now self.entry.nametables.now self.entry.strip column) at 8 row.old }
+    {
+        let tile = self.nametables[self.strip.tiles + column] as usize;
+        let byte = 16 * tile + self.strip.fine;
+        put_tile(row, at, self.table[byte], self.table[byte + 8], palette);
+    }
 
-// Four tiles that share an attribute byte. Both palettes are taken before a store, so that the byte is loaded once.
-fn put_group(table: &[u8], nametables: &[u8], s: Strip, group: usize, row: &mut [u8], at: usize)
-    requires { (length table.now ≡ pattern_length) × Within s (length nametables.now) × (group < 8) × (at + 32 ≤ length row.old) }
-    ensures { row.new ≡ store_tab (strip_pixel table.now nametables.now s (4 * group)) at 32 row.old }
-{
-    let column = 4 * group;
-    let left = palette_at(nametables, s, column);
-    let right = palette_at(nametables, s, column + 2);
-    put_pair(table, nametables, s, column, left, row, at);
-    put_pair(table, nametables, s, column + 2, right, row, at + 16);
+    // Two tiles that share a palette.
+    #[tactic(auto, using(crate::proofs::Cases::pair_cases))]
+    fn put_pair(self, column: usize, palette: u8, row: &mut [u8; 288], at: usize)
+        requires { (column < 32) × (column % 2 ≡ 0) × (palette ≡ palette_of self.nametables.now self.strip column) × (palette < 4)
+            × (at + 16 ≤ row_length) }
+        ensures { row.new ≡ store_tab (strip_pixel self.entry.table.now self.entry.nametables.now self.entry.strip column) at 16 row.old }
+    {
+        self.put_column(column, palette, row, at);
+        self.put_column(column + 1, palette, row, at + 8);
+    }
+
+    // Four tiles that share an attribute byte. Both palettes are taken before a store, so that the byte is loaded once.
+    #[tactic(auto, using(crate::proofs::Cases::group_1))]
+    fn put_group(self, group: usize, row: &mut [u8; 288], at: usize)
+        requires { (group < 8) × (at + 32 ≤ row_length) }
+        ensures { row.new ≡ store_tab (strip_pixel self.entry.table.now self.entry.nametables.now self.entry.strip (4 * group)) at 32 row.old }
+    {
+        let column = 4 * group;
+        let left = self.palette_at(column);
+        let right = self.palette_at(column + 2);
+        self.put_pair(column, left, row, at);
+        self.put_pair(column + 2, right, row, at + 16);
+    }
 }
 
 // n groups from a group on, put into the row from its group at on.
+#[tactic(auto, using(crate::proofs::Cases::run_cases))]
 pub fn run(
-    table: &[u8],
+    table: &[u8; 4096],
     nametables: &[u8],
     s: Strip,
     group: usize,
     n: usize,
-    row: &mut [u8],
+    row: &mut [u8; 288],
     at: usize,
 )
-    requires { (length table.now ≡ pattern_length) × Within s (length nametables.now) × (group + n ≤ 8)
-        × (length row.old ≡ row_length) × (at + n ≤ 9) }
+    requires { Within s (length nametables.now) × (group + n ≤ 8) × (at + n ≤ 9) }
     ensures { row.new ≡ store_tab (strip_pixel table.now nametables.now s (4 * group)) (32 * at) (32 * n) row.old }
 {
-    let mut t = 0;
-    while t < n {
-        put_group(table, nametables, s, group + t, row, 32 * (at + t));
-        t += 1;
+    let source = Source {
+        table,
+        nametables,
+        strip: s,
+    };
+    for t in 0..n {
+        source.put_group(group + t, row, 32 * (at + t));
     }
 }

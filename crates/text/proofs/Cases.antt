@@ -1,6 +1,6 @@
 -- The ways of each function, for `search`.
 use Prim.Native.Nat.{ℕ, suc, ◌%◌, ◌≤◌, ◌<◌}
-use mathlib.Core.Path.{◌≡◌, refl, sym, ap, ◌∙◌}
+use mathlib.Core.Path.{◌≡◌, refl, sym, ◌∙◌}
 use mathlib.Core.Bool.{Bool, true, false, true≢false, cond, not, ◌&&◌}
 use mathlib.Core.List.{List, [], ◌∷◌, ◌++◌}
 use native.Mathlib.Omega.{arith}
@@ -8,66 +8,42 @@ use lib.Dec.{eqb, ltb, leb}
 use lib.ListN.{length, get_or, drop}
 use mir.Val.{Fits}
 use mir.Syntax.{w8}
-use borrow.Author.Tests.{eq-eqb, ne_eqb, lt-ltb, le-ltb, ltb-true, ltb-false, le-leb, lt-leb, not-false}
+use borrow.Author.Tests.{eq-eqb, ne_eqb, ltb-true, ltb-false, le-leb, lt-leb, not-false}
+use Rattle.std.specs.Array.{IsWholeChunk}
 use Rattle.model.specs.declared.TextAnswer.{TextAnswer}
 use Rattle.model.specs.Sprites.{count_of}
 use Rattle.model.specs.Line.{tab, any_of}
-use Rattle.model.specs.Text.{rows_length, character_of, rows_of, bare_count, lowest_tile, is_known, some_unknown, page_of, text_long, Written, text_answer, written, text_call, page_call, packed_text, written_for_c, exported_text}
+use Rattle.model.specs.Text.{rows_length, character_of, rows_of, bare_count, lowest_tile, is_known, some_unknown, page_of, text_long, text_answer, written, text_call, page_call}
 use Rattle.model.proofs.Tab.{get_or_tab, tab_cong}
-use Rattle.model.proofs.Text.{count_cong, any_cong, any_none, long_lengths}
+use Rattle.model.proofs.Text.{count_cong, any_cong, any_none}
 use Rattle.text.specs.Passes.{table_byte, is_zero, spaced, tile_for, tile_byte, no_tile}
-
-module _ (b : ℕ) where
-  pub one_1 : b ≡ 0 → ◌≡◌ {A = ℕ} 1 (cond (eqb b 0) 1 0)
-  one_1 e = rw (eq-eqb b 0 e)
-
-  pub one_2 : (b ≡ 0 → ⊥) → ◌≡◌ {A = ℕ} 0 (cond (eqb b 0) 1 0)
-  one_2 e = rw (ne_eqb b 0 e)
-
-  pub space_1 : b ≡ 0 → 32 ≡ cond (eqb b 0) 32 b
-  space_1 e = rw (eq-eqb b 0 e)
-
-  pub space_2 : (b ≡ 0 → ⊥) → b ≡ cond (eqb b 0) 32 b
-  space_2 e = rw (ne_eqb b 0 e)
-
-pub ruleset byte_cases = (one_1, one_2, space_1, space_2)
-
-module _ (a b : ℕ) where
-  pub larger_1 : a < b → b ≡ cond (ltb a b) b a
-  larger_1 h = rw (lt-ltb a b h)
-
-  pub larger_2 : b ≤ a → a ≡ cond (ltb a b) b a
-  larger_2 h = rw (le-ltb a b h)
-
-pub ruleset larger_cases = (larger_1, larger_2)
 
 -- lengths
 module _ (p t r : List ℕ) where
-  pub sizes_1 : (length p ≡ 1024 → ⊥) → false ≡ text_long p t r
+  pub page_wrong : (length p ≡ 1024 → ⊥) → text_long p t r ≡ false
   unfolding text_long
-  sizes_1 h = rw (ne_eqb (length p) 1024 h)
+  page_wrong h = rw (ne_eqb (length p) 1024 h)
 
-  pub sizes_2 : length p ≡ 1024 → (length t ≡ 256 → ⊥) → false ≡ text_long p t r
+  pub table_wrong : (length t ≡ 256 → ⊥) → text_long p t r ≡ false
   unfolding text_long
-  sizes_2 g h = rw (eq-eqb (length p) 1024 g, ne_eqb (length t) 256 h)
+  table_wrong h = rw (ne_eqb (length t) 256 h) (none (eqb (length p) 1024))
+    where
+      none : (x : Bool) → x && false ≡ false
+      none true = refl
+      none false = refl
 
-  pub sizes_3 : length p ≡ 1024 → length t ≡ 256 → eqb (length r) 960 ≡ text_long p t r
+  pub rows_wrong : (length r ≡ 960 → ⊥) → text_long p t r ≡ false
   unfolding text_long
-  sizes_3 g h = rw (eq-eqb (length p) 1024 g, eq-eqb (length t) 256 h)
+  rows_wrong h = rw (ne_eqb (length r) 960 h) (none (eqb (length p) 1024) (eqb (length t) 256))
+    where
+      none : (x y : Bool) → x && (y && false) ≡ false
+      none true true = refl
+      none true false = refl
+      none false y = refl
 
-pub ruleset sizes_cases = (sizes_1, sizes_2, sizes_3)
-
-module _ (p t r : List ℕ) (s : Bool) (hs : s ≡ text_long p t r) (h : s ≡ true) where
-  pub page_long : length p ≡ 1024
-  page_long = (long_lengths p t r (sym hs ∙ h)).0
-
-  pub table_long : length t ≡ 256
-  table_long = (long_lengths p t r (sym hs ∙ h)).1
-
-  pub rows_long : length r ≡ 960
-  rows_long = (long_lengths p t r (sym hs ∙ h)).2
-
-pub ruleset long_cases = (page_long, table_long, rows_long)
+  right_lengths : length p ≡ 1024 → length t ≡ 256 → length r ≡ 960 → text_long p t r ≡ true
+  unfolding text_long
+  right_lengths g h i = rw (eq-eqb (length p) 1024 g, eq-eqb (length t) 256 h, eq-eqb (length r) 960 i)
 
 -- the table's bytes, spaced, are the rows
 module _ (t p d : List ℕ) (e : d ≡ tab (table_byte t p) rows_length) where
@@ -86,16 +62,15 @@ module _ (t p d : List ℕ) (e : d ≡ tab (table_byte t p) rows_length) where
 pub ruleset rows_cases = (rows_put, bare_put)
 
 -- page and table to rows
-module _ (p t r r' : List ℕ) (s : Bool) (hs : s ≡ text_long p t r) (x : TextAnswer) where
-  pub text_done : (n : ℕ) → s ≡ true → r' ≡ rows_of t p → n ≡ bare_count t p → x ≡ text_answer 0 n → written x r' ≡ text_call p t r
+module _ (p t r r' : List ℕ) (x : TextAnswer) where
+  pub text_refused : text_long p t r ≡ false → r' ≡ r → x ≡ text_answer 2 0 → written x r' ≡ text_call p t r
   unfolding text_call
-  text_done n h e f g = rw (g, e, f, ← hs, h)
+  text_refused h e g = rw (g, e, h)
 
-  pub text_refused : s ≡ false → r' ≡ r → x ≡ text_answer 2 0 → written x r' ≡ text_call p t r
+  pub text_done : (p₁ t₁ r₁ : List ℕ) (n : ℕ) → IsWholeChunk p p₁ 1024 → IsWholeChunk t t₁ 256 → IsWholeChunk r r₁ 960 → r' ≡ rows_of t₁ p₁ → n ≡ bare_count t₁ p₁
+      → x ≡ text_answer 0 n → written x r' ≡ text_call p t r
   unfolding text_call
-  text_refused h e g = rw (g, e, ← hs, h)
-
-pub ruleset text_cases = (text_done, text_refused)
+  text_done p₁ t₁ r₁ n hp ht hr e f g = rw (g, e, f, hp.same, ht.same, right_lengths p t r hp.long ht.long hr.long)
 
 -- rows and table to a page: the tile of a character that is known
 lowest_small : (c : ℕ) (t : List ℕ) → lowest_tile c t ≤ length t
@@ -140,27 +115,21 @@ module _ (t tiles r : List ℕ) (ht : length t ≡ 256) (e : tiles ≡ tab (tile
   unfolding page_of
   page_put p p' m z f g = g ∙ rw (f, tab_cong (tile_byte tiles r) (λ (k : ℕ). lowest_tile (get_or r k 0) t) 960 (tile_is z))
 
-module _ (p p' t r : List ℕ) (s : Bool) (hs : s ≡ text_long p t r) (x : TextAnswer) where
-  pub page_refused : s ≡ false → p' ≡ p → x ≡ text_answer 2 0 → written x p' ≡ page_call r t p
+module _ (p p' t r : List ℕ) (x : TextAnswer) where
+  pub page_refused : text_long p t r ≡ false → p' ≡ p → x ≡ text_answer 2 0 → written x p' ≡ page_call r t p
   unfolding page_call
-  page_refused h e g = rw (g, e, ← hs, h)
+  page_refused h e g = rw (g, e, h)
 
-  module _ (tiles : List ℕ) (a : Bool) (h : s ≡ true) (e : tiles ≡ tab (tile_for t) 256) (b : (k : ℕ) → Fits w8 (get_or r k 0)) (ha : a ≡ any_of (no_tile tiles r) rows_length) where
-    told : a ≡ some_unknown r t
-    told = ha ∙ any_unknown t tiles r (table_long p t r s hs h) e b
+  module _ (t₁ r₁ tiles : List ℕ) (hp : length p ≡ 1024) (ht : IsWholeChunk t t₁ 256) (hr : IsWholeChunk r r₁ 960) (e : tiles ≡ tab (tile_for t₁) 256)
+      (b : (k : ℕ) → Fits w8 (get_or r k 0)) where
+    told : any_of (no_tile tiles r₁) rows_length ≡ some_unknown r t
+    told = rw hr.same (any_unknown t tiles r ht.long (rw ht.same at e) b)
 
-    pub page_unknown : a ≡ true → p' ≡ p → x ≡ text_answer 8 0 → written x p' ≡ page_call r t p
+    pub page_unknown : any_of (no_tile tiles r₁) rows_length ≡ true → p' ≡ p → x ≡ text_answer 8 0 → written x p' ≡ page_call r t p
     unfolding page_call
-    page_unknown ya f g = rw (g, f, ← hs, h, ← told, ya)
+    page_unknown a f g = rw (g, f, right_lengths p t r hp ht.long hr.long, sym told ∙ a)
 
-    pub page_done : (m : List ℕ) → a ≡ false → m ≡ tab (tile_byte tiles r) rows_length → p' ≡ m ++ drop rows_length p → x ≡ text_answer 0 0 → written x p' ≡ page_call r t p
+    pub page_done : (m : List ℕ) → any_of (no_tile tiles r₁) rows_length ≡ false → m ≡ tab (tile_byte tiles r₁) rows_length → p' ≡ m ++ drop rows_length p → x ≡ text_answer 0 0
+        → written x p' ≡ page_call r t p
     unfolding page_call
-    page_done m na f f' g = rw (g, page_put t tiles r (table_long p t r s hs h) e b p p' m (sym told ∙ na) f f', ← hs, h, ← told, na)
-
-pub ruleset page_cases = (page_refused, page_unknown, page_done)
-
--- for C
-pub export_1 : (x : TextAnswer) (l : List ℕ) (w : Written) (n : ℕ) → written x l ≡ w → n ≡ packed_text x → written_for_c n l ≡ exported_text w
-export_1 x l w n e h = ap (λ (k : ℕ). written_for_c k l) h ∙ ap exported_text e
-
-pub ruleset export_cases = (export_1)
+    page_done m a f f' g = rw (g, right_lengths p t r hp ht.long hr.long, sym told ∙ a, page_put t tiles r ht.long (rw ht.same at e) b p p' m (sym told ∙ a) (rw hr.same at f) f')

@@ -23,7 +23,3 @@ tile_byte tiles rows k = get_or tiles (get_or rows k 0) 0 % 256
 
 unfoldable pub no_tile : List ℕ → List ℕ → ℕ → Bool
 no_tile tiles rows k = leb table_length (get_or tiles (get_or rows k 0) 0)
-
--- then these bytes are copied
-unfoldable pub byte_of : List ℕ → ℕ → ℕ
-byte_of l k = get_or l k 0

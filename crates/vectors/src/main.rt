@@ -1,7 +1,6 @@
 // Runs the checked values through the public calls and prints one line each.
-// Calls: warmed, wrote, tried, got, lent, drew, ran, number. What they show: place, stored, cell, page_cell, opaque_column, stepped, lowered, wide, shown, looked, overflow,
-// search_with.
-// Lines: say, say_hex.
+// Calls: warmed; Lent (the memory that they are lent): new, read_with, read, write, run. What they show: place, cell, drew, opaque_column, ran, stepped, lowered,
+// shown, looked, overflow, search_with, number. Lines: say, say_hex.
 // One function a group of values: cells, palette_cells, scrolling, stepping, rows, status, runs, colours, searches, refusals,
 // records, tiles.
 #![tactic(auto)]
@@ -13,174 +12,133 @@ use std::io;
 
 // A unit of this board that is warmed up.
 fn warmed(board: u8) -> Ppu {
-    let a = ppu::fresh(board);
-    let mut u = a.unit;
+    let mut u = ppu::fresh(board).unit;
     u.warm = true;
     u
 }
 
-// The unit after a write; all memory zero.
-fn wrote(u: Ppu, address: u16, byte: u8) -> Ppu {
-    let mut left = [0u8; 4096];
-    let mut right = [0u8; 4096];
-    let mut nametables = [0u8; 2048];
-    let mut oam = [0u8; 256];
-    let mut palette = [0u8; 32];
-    let a = ppu::write(
-        u,
-        address,
-        byte,
-        &mut left,
-        &mut right,
-        &mut nametables,
-        &mut oam,
-        &mut palette,
-    );
-    let n = a.unit;
-    n
+// The memory that a call is lent, all zero at first, with N bytes of nametable RAM.
+#[derive(Drop)]
+struct Lent<const N: usize> {
+    left: [u8; 4096],
+    right: [u8; 4096],
+    nametables: [u8; N],
+    oam: [u8; 256],
+    palette: [u8; 32],
+    line: [u8; 256],
+    colours: [u16; 256],
 }
 
-// A read with this OAM; all memory zero.
-fn tried(u: Ppu, address: u16, oam: &[u8]) -> Access {
-    let left = [0u8; 4096];
-    let right = [0u8; 4096];
-    let nametables = [0u8; 2048];
-    let palette = [0u8; 32];
-    ppu::read(u, address, &left, &right, &nametables, oam, &palette)
-}
+impl<const N: usize> Lent<N> {
+    fn new() -> Self {
+        Lent {
+            left: [0; 4096],
+            right: [0; 4096],
+            nametables: [0; N],
+            oam: [0; 256],
+            palette: [0; 32],
+            line: [0; 256],
+            colours: [0; 256],
+        }
+    }
 
-fn got(u: Ppu, address: u16) -> Access {
-    let oam = [0u8; 256];
-    tried(u, address, &oam)
-}
+    // A read with this OAM.
+    fn read_with(&self, u: Ppu, address: u16, oam: &[u8]) -> Access {
+        ppu::read(
+            u,
+            address,
+            &self.left,
+            &self.right,
+            &self.nametables,
+            oam,
+            &self.palette,
+        )
+    }
 
-// A read of port 2 with this nametable RAM; all memory zero.
-fn lent(u: Ppu, nametables: &[u8]) -> Access {
-    let left = [0u8; 4096];
-    let right = [0u8; 4096];
-    let oam = [0u8; 256];
-    let palette = [0u8; 32];
-    ppu::read(u, 0x2002, &left, &right, nametables, &oam, &palette)
-}
+    fn read(&self, u: Ppu, address: u16) -> Access {
+        self.read_with(u, address, &self.oam)
+    }
 
-// The unit after a line whose only opaque tile stands at this cell; all other memory is zero.
-fn drew(u: Ppu, cell: usize, line: &mut [u8]) -> Ppu
-    requires { cell < 2048 }
-{
-    let mut nametables = [0u8; 2048];
-    nametables[cell] = 1;
-    let mut left = [0u8; 4096];
-    left[16] = 255;
-    let right = [0u8; 4096];
-    let oam = [0u8; 256];
-    let palette = [0u8; 32];
-    let mut colours = [0u16; 256];
-    let a = ppu::run(
-        u,
-        1,
-        0,
-        &left,
-        &right,
-        &nametables,
-        &oam,
-        &palette,
-        line,
-        &mut colours,
-    );
-    let n = a.unit;
-    n
-}
+    fn write(&mut self, u: Ppu, address: u16, byte: u8) -> Access {
+        ppu::write(
+            u,
+            address,
+            byte,
+            &mut self.left,
+            &mut self.right,
+            &mut self.nametables,
+            &mut self.oam,
+            &mut self.palette,
+        )
+    }
 
-// The lines that a run of at most 262 runs from this line, with control bit 7 set.
-fn ran(scanline: u16) -> u32 {
-    let mut u = warmed(0);
-    u.control = 128;
-    u.scanline = scanline;
-    let left = [0u8; 4096];
-    let right = [0u8; 4096];
-    let nametables = [0u8; 2048];
-    let oam = [0u8; 256];
-    let palette = [0u8; 32];
-    let mut line = [0u8; 256];
-    let mut colours = [0u16; 256];
-    let a = ppu::run(
-        u,
-        262,
-        1,
-        &left,
-        &right,
-        &nametables,
-        &oam,
-        &palette,
-        &mut line,
-        &mut colours,
-    );
-    let answer = a.answer;
-    answer.lines
+    fn run(&mut self, u: Ppu, lines: u16, reason: u8) -> Access {
+        ppu::run(
+            u,
+            lines,
+            reason,
+            &self.left,
+            &self.right,
+            &self.nametables,
+            &self.oam,
+            &self.palette,
+            &mut self.line,
+            &mut self.colours,
+        )
+    }
 }
 
 // Where a byte stands first, or the length where it does not.
 fn place(s: &[u8], byte: u8) -> usize {
-    let mut i = 0;
-    while i < s.len() {
-        if s[i] == byte {
-            return i;
-        }
-        i += 1;
-    }
-    i
+    s.iter().position(|b| *b == byte).unwrap_or(s.len())
 }
 
-// The cell that a write of port 7 stores in, for a board and v: of the palette from $3F00, else of nametable RAM, which is all zero.
-fn stored(board: u8, v: u16, nametables: &mut [u8]) -> usize {
+// The cell that a write of port 7 stores in, for a board, v and N bytes of nametable RAM: of the palette from $3F00, else of nametable RAM.
+fn cell<const N: usize>(board: u8, v: u16) -> u64
+    requires { N ≤ 4096 }
+{
     let mut u = warmed(board);
     u.v = v;
-    let mut left = [0u8; 4096];
-    let mut right = [0u8; 4096];
-    let mut oam = [0u8; 256];
-    let mut palette = [0u8; 32];
-    ppu::write(
-        u,
-        0x2007,
-        42,
-        &mut left,
-        &mut right,
-        nametables,
-        &mut oam,
-        &mut palette,
-    );
+    let mut m = Lent::<N>::new();
+    m.write(u, 0x2007, 42);
     if v < 0x3F00 {
-        return place(nametables, 42);
+        place(&m.nametables, 42) as u64
+    } else {
+        place(&m.palette, 42) as u64
     }
-    place(&palette, 42)
 }
 
-// The same with nametable RAM of two pages, and of four.
-fn cell(board: u8, v: u16) -> usize {
-    let mut nametables = [0u8; 2048];
-    stored(board, v, &mut nametables)
-}
-
-fn page_cell(v: u16) -> usize {
-    let mut nametables = [0u8; 4096];
-    stored(4, v, &mut nametables)
+// Memory after a line whose only opaque tile stands at this cell, and the unit.
+fn drew(u: Ppu, cell: usize) -> (Lent<2048>, Ppu)
+    requires { cell < 2048 }
+{
+    let mut m = Lent::new();
+    m.nametables[cell] = 1;
+    m.left[16] = 255;
+    let after = m.run(u, 1, 0).unit;
+    (m, after)
 }
 
 // The first column of a line, drawn with the background from v on under wiring 1, that shows the tile at this cell.
-fn opaque_column(v: u16, cell: usize) -> usize
+fn opaque_column(v: u16, cell: usize) -> u64
     requires { cell < 2048 }
 {
     let mut u = warmed(1);
     u.v = v;
     u.mask = 10;
-    let mut line = [0u8; 256];
-    drew(u, cell, &mut line);
-    place(&line, 1)
+    place(&drew(u, cell).0.line, 1) as u64
+}
+
+// The lines that a run of at most 262 runs from this line, with control bit 7 set.
+fn ran(scanline: u16) -> u64 {
+    let mut u = warmed(0);
+    u.control = 128;
+    u.scanline = scanline;
+    Lent::<2048>::new().run(u, 262, 1).answer.lines as u64
 }
 
 fn number(a: Access) -> u64 {
-    let answer = a.answer;
-    answer.number as u64
+    a.answer.number as u64
 }
 
 // A line: what a value is, and the value.
@@ -194,35 +152,36 @@ fn say_hex(rt: &impl Print, what: &str, value: u64) -> io::Result<()> {
 }
 
 fn cells(rt: &impl Print) -> io::Result<()> {
-    say(rt, "$2C05, wiring 0: cell ", cell(0, 0x2C05) as u64)?;
-    say(rt, "$2C05, wiring 1: cell ", cell(1, 0x2C05) as u64)?;
-    say(rt, "$2C05, wiring 3: cell ", cell(3, 0x2C05) as u64)?;
-    say(rt, "$2C05, wiring 2: cell ", cell(2, 0x2C05) as u64)?;
-    say(rt, "$2405, wiring 0: cell ", cell(0, 0x2405) as u64)?;
-    say(rt, "$2405, wiring 1: cell ", cell(1, 0x2405) as u64)?;
-    say(rt, "$3EFF, wiring 0: cell ", cell(0, 0x3EFF) as u64)?;
-    say(rt, "$2000, wiring 4: cell ", page_cell(0x2000) as u64)?;
-    say(rt, "$2400, wiring 4: cell ", page_cell(0x2400) as u64)?;
-    say(rt, "$2800, wiring 4: cell ", page_cell(0x2800) as u64)?;
-    say(rt, "$2C05, wiring 4: cell ", page_cell(0x2C05) as u64)?;
-    say(rt, "$2FFF, wiring 4: cell ", page_cell(0x2FFF) as u64)?;
-    say(rt, "$3EFF, wiring 4: cell ", page_cell(0x3EFF) as u64)
+    say(rt, "$2C05, wiring 0: cell ", cell::<2048>(0, 0x2C05))?;
+    say(rt, "$2C05, wiring 1: cell ", cell::<2048>(1, 0x2C05))?;
+    say(rt, "$2C05, wiring 3: cell ", cell::<2048>(3, 0x2C05))?;
+    say(rt, "$2C05, wiring 2: cell ", cell::<2048>(2, 0x2C05))?;
+    say(rt, "$2405, wiring 0: cell ", cell::<2048>(0, 0x2405))?;
+    say(rt, "$2405, wiring 1: cell ", cell::<2048>(1, 0x2405))?;
+    say(rt, "$3EFF, wiring 0: cell ", cell::<2048>(0, 0x3EFF))?;
+    say(rt, "$2000, wiring 4: cell ", cell::<4096>(4, 0x2000))?;
+    say(rt, "$2400, wiring 4: cell ", cell::<4096>(4, 0x2400))?;
+    say(rt, "$2800, wiring 4: cell ", cell::<4096>(4, 0x2800))?;
+    say(rt, "$2C05, wiring 4: cell ", cell::<4096>(4, 0x2C05))?;
+    say(rt, "$2FFF, wiring 4: cell ", cell::<4096>(4, 0x2FFF))?;
+    say(rt, "$3EFF, wiring 4: cell ", cell::<4096>(4, 0x3EFF))
 }
 
 fn palette_cells(rt: &impl Print) -> io::Result<()> {
-    say(rt, "$3F10: palette ", cell(0, 0x3F10) as u64)?;
-    say(rt, "$3F14: palette ", cell(0, 0x3F14) as u64)?;
-    say(rt, "$3F11: palette ", cell(0, 0x3F11) as u64)?;
-    say(rt, "$3FFF: palette ", cell(0, 0x3FFF) as u64)
+    say(rt, "$3F10: palette ", cell::<2048>(0, 0x3F10))?;
+    say(rt, "$3F14: palette ", cell::<2048>(0, 0x3F14))?;
+    say(rt, "$3F11: palette ", cell::<2048>(0, 0x3F11))?;
+    say(rt, "$3FFF: palette ", cell::<2048>(0, 0x3FFF))
 }
 
 fn scrolling(rt: &impl Print) -> io::Result<()> {
-    let first = wrote(warmed(0), 0x2005, 125);
-    let second = wrote(first, 0x2005, 94);
+    let mut m = Lent::<2048>::new();
+    let first = m.write(warmed(0), 0x2005, 125).unit;
+    let second = m.write(first, 0x2005, 94).unit;
     say(rt, "port 5 with 125, 94: t ", second.t as u64)?;
     say(rt, "port 5 with 125, 94: x ", second.x as u64)?;
-    let third = wrote(second, 0x2006, 0x3D);
-    let fourth = wrote(third, 0x2006, 0xF0);
+    let third = m.write(second, 0x2006, 0x3D).unit;
+    let fourth = m.write(third, 0x2006, 0xF0).unit;
     say(rt, "then port 6 with $3D, $F0: v ", fourth.v as u64)
 }
 
@@ -231,9 +190,7 @@ fn stepped(control: u8) -> u64 {
     let mut u = warmed(0);
     u.control = control;
     u.v = 32767;
-    let a = got(u, 0x2007);
-    let n = a.unit;
-    n.v as u64
+    Lent::<2048>::new().read(u, 0x2007).unit.v as u64
 }
 
 fn stepping(rt: &impl Print) -> io::Result<()> {
@@ -246,9 +203,7 @@ fn lowered(v: u16) -> u64 {
     let mut u = warmed(0);
     u.v = v;
     u.mask = 8;
-    let mut line = [0u8; 256];
-    let n = drew(u, 0, &mut line);
-    n.v as u64
+    drew(u, 0).1.v as u64
 }
 
 fn rows(rt: &impl Print) -> io::Result<()> {
@@ -258,7 +213,7 @@ fn rows(rt: &impl Print) -> io::Result<()> {
     say(
         rt,
         "v 31: cell 1024 is seen from column ",
-        opaque_column(31, 1024) as u64,
+        opaque_column(31, 1024),
     )
 }
 
@@ -266,23 +221,21 @@ fn status(rt: &impl Print) -> io::Result<()> {
     let mut u = warmed(0);
     u.status = 0x80;
     u.latch = 0x35;
-    let first = got(u, 0x2002);
-    let a = first.answer;
-    say_hex(rt, "status $80, latch $35: read 2 gives $", a.byte as u64)?;
-    let n = first.unit;
-    let second = got(n, 0x2002);
-    let b = second.answer;
-    say_hex(rt, "then $", b.byte as u64)
+    let m = Lent::<2048>::new();
+    let first = m.read(u, 0x2002);
+    say_hex(
+        rt,
+        "status $80, latch $35: read 2 gives $",
+        first.answer.byte as u64,
+    )?;
+    let second = m.read(first.unit, 0x2002);
+    say_hex(rt, "then $", second.answer.byte as u64)
 }
 
 fn runs(rt: &impl Print) -> io::Result<()> {
-    say(rt, "run of 262 from 241: lines ", ran(241) as u64)?;
-    say(rt, "run of 262 from 242: lines ", ran(242) as u64)?;
-    say(rt, "run of 262 from 0: lines ", ran(0) as u64)
-}
-
-fn wide(n: u16) -> u64 {
-    n as u64
+    say(rt, "run of 262 from 241: lines ", ran(241))?;
+    say(rt, "run of 262 from 242: lines ", ran(242))?;
+    say(rt, "run of 262 from 0: lines ", ran(0))
 }
 
 // The colour in the last column of a line with this mask and v, drawn or off. Its background is of pixel number 1; cell 0 of the palette holds
@@ -291,30 +244,13 @@ fn shown(mask: u8, v: u16) -> u64 {
     let mut u = warmed(0);
     u.mask = mask;
     u.v = v;
-    let mut left = [0u8; 4096];
-    left[0] = 255;
-    let right = [0u8; 4096];
-    let nametables = [0u8; 2048];
-    let oam = [0u8; 256];
-    let mut palette = [0u8; 32];
-    palette[0] = 0x0F;
-    palette[1] = 0xD6;
-    palette[4] = 0x2A;
-    let mut line = [0u8; 256];
-    let mut colours = [0u16; 256];
-    ppu::run(
-        u,
-        1,
-        0,
-        &left,
-        &right,
-        &nametables,
-        &oam,
-        &palette,
-        &mut line,
-        &mut colours,
-    );
-    wide(colours[255])
+    let mut m = Lent::<2048>::new();
+    m.left[0] = 255;
+    m.palette[0] = 0x0F;
+    m.palette[1] = 0xD6;
+    m.palette[4] = 0x2A;
+    m.run(u, 1, 0);
+    m.colours[255] as u64
 }
 
 fn colours(rt: &impl Print) -> io::Result<()> {
@@ -332,37 +268,18 @@ fn colours(rt: &impl Print) -> io::Result<()> {
 }
 
 // The sprites that the search on line 20 looks at.
-fn looked(oam: &[u8]) -> u64 {
-    let a = ppu::search(warmed(0), 20, oam);
-    let answer = a.answer;
-    answer.looked as u64
+fn looked(oam: &[u8; 256]) -> u64 {
+    ppu::search(warmed(0), 20, oam).answer.looked as u64
 }
 
 // Status bit 5 after line 20 was drawn.
-fn overflow(oam: &[u8]) -> u64 {
+fn overflow(oam: &[u8; 256]) -> u64 {
     let mut u = warmed(0);
     u.mask = 0x18;
     u.scanline = 20;
-    let left = [0u8; 4096];
-    let right = [0u8; 4096];
-    let nametables = [0u8; 2048];
-    let palette = [0u8; 32];
-    let mut line = [0u8; 256];
-    let mut colours = [0u16; 256];
-    let a = ppu::run(
-        u,
-        1,
-        0,
-        &left,
-        &right,
-        &nametables,
-        oam,
-        &palette,
-        &mut line,
-        &mut colours,
-    );
-    let n = a.unit;
-    (n.status / 32) as u64
+    let mut m = Lent::<2048>::new();
+    m.oam = *oam;
+    (m.run(u, 1, 0).unit.status / 32) as u64
 }
 
 // Eight sprites from this place of OAM on and one byte more are in range of line 20, all others are not.
@@ -370,14 +287,9 @@ fn search_with(rt: &impl Print, what: &str, from: usize, more: usize) -> io::Res
     requires { (from ≤ 224) × (more < 256) }
 {
     let mut oam = [255u8; 256];
-    oam[from] = 20;
-    oam[from + 4] = 20;
-    oam[from + 8] = 20;
-    oam[from + 12] = 20;
-    oam[from + 16] = 20;
-    oam[from + 20] = 20;
-    oam[from + 24] = 20;
-    oam[from + 28] = 20;
+    for sprite in 0..8 {
+        oam[from + 4 * sprite] = 20;
+    }
     oam[more] = 20;
     say(rt, what, looked(&oam))?;
     say(rt, "status bit 5: ", overflow(&oam))
@@ -393,32 +305,41 @@ fn searches(rt: &impl Print) -> io::Result<()> {
 
 fn refusals(rt: &impl Print) -> io::Result<()> {
     let u = warmed(0);
+    let m = Lent::<2048>::new();
     let oam = [0u8; 257];
-    say(rt, "$1FFF: ", number(got(u, 0x1FFF)))?;
-    say(rt, "$4000: ", number(got(u, 0x4000)))?;
-    say(rt, "$3FFF: ", number(got(u, 0x3FFF)))?;
+    say(rt, "$1FFF: ", number(m.read(u, 0x1FFF)))?;
+    say(rt, "$4000: ", number(m.read(u, 0x4000)))?;
+    say(rt, "$3FFF: ", number(m.read(u, 0x3FFF)))?;
     say(
         rt,
         "255 bytes of OAM: ",
-        number(tried(u, 0x2002, &oam[..255])),
+        number(m.read_with(u, 0x2002, &oam[..255])),
     )?;
-    say(rt, "257 bytes of OAM: ", number(tried(u, 0x2002, &oam)))?;
+    say(
+        rt,
+        "257 bytes of OAM: ",
+        number(m.read_with(u, 0x2002, &oam)),
+    )?;
     let mut late = u;
     late.scanline = 262;
-    say(rt, "next line 262: ", number(got(late, 0x2002)))?;
+    say(rt, "next line 262: ", number(m.read(late, 0x2002)))?;
     say(
         rt,
         "next line 262, 257 bytes of OAM: ",
-        number(tried(late, 0x2002, &oam)),
+        number(m.read_with(late, 0x2002, &oam)),
     )?;
-    let ram = [0u8; 4096];
-    say(rt, "wiring 0, 4096 bytes: ", number(lent(u, &ram)))?;
+    let pages = Lent::<4096>::new();
+    say(rt, "wiring 0, 4096 bytes: ", number(pages.read(u, 0x2002)))?;
     say(
         rt,
         "wiring 4, 2048 bytes: ",
-        number(lent(warmed(4), &ram[..2048])),
+        number(m.read(warmed(4), 0x2002)),
     )?;
-    say(rt, "wiring 4, 4096 bytes: ", number(lent(warmed(4), &ram)))?;
+    say(
+        rt,
+        "wiring 4, 4096 bytes: ",
+        number(pages.read(warmed(4), 0x2002)),
+    )?;
     say(
         rt,
         "a search on line 240: ",
@@ -437,9 +358,7 @@ fn records(rt: &impl Print) -> io::Result<()> {
     u.v = 15856;
     let mut bytes = [0u8; 16];
     say(rt, "a unit saved: ", number(ppu::save(u, &mut bytes)))?;
-    let a = ppu::load(&bytes);
-    let n = a.unit;
-    say(rt, "loaded again: v ", n.v as u64)?;
+    say(rt, "loaded again: v ", ppu::load(&bytes).unit.v as u64)?;
     let short = [0u8; 15];
     say(rt, "15 bytes of a record: ", number(ppu::load(&short)))?;
     say(rt, "board byte 4: ", number(ppu::fresh(4)))?;

@@ -37,6 +37,8 @@ sum_fits l h q i j k =
     let a : bit_or l h ≤ 0x0202020202020202 = omega (arith, or_le l h) in
     record { fits = omega (arith, mul-le-mul_right (4 * q) a) }
 
+pub ruleset numbers_fit = (product_fits, sum_fits)
+
 pub pixels_are : (f g : ℕ → ℕ) (q : ℕ) → ((k : ℕ) → f k < 2) → ((k : ℕ) → g k < 2) → pixels_by (pack f 8) (pack g 8) q ≡ pack (λ (k : ℕ). number_of q (f k + 2 * g k)) 8
 unfolding pixels_by
 pixels_are f g q h i =

@@ -1,4 +1,3 @@
 pub mod Pack
 pub mod Spreads
 pub mod Colours
-pub mod Cases

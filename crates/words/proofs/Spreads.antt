@@ -60,10 +60,10 @@ spread_le b = rw (← ones) (pack_le (λ (k : ℕ). b / 2 ^ (7 - k) % 2) (λ (k 
 abbrev spread_by : ℕ → ℕ → ℕ → ℕ
 spread_by s m x = bit_and (x * s + x * 2 ^ 63 % 2 ^ 64) m / 128
 
-pub spread_is : (s m x b : ℕ) → T (all_below (λ (k : ℕ). eqb (spread_by s m k) (spread_of k)) 256) → x ≡ b → b < 256
-    → (spread_by s m x ≡ spread_of b) × (spread_by s m x ≤ 0x0101010101010101)
-spread_is s m x b t e h =
-    let d : spread_by s m x ≡ spread_of b = rw e (eqb→eq (spread_by s m b) (spread_of b) (all_at (λ (k : ℕ). eqb (spread_by s m k) (spread_of k)) 256 t b h)) in
+pub spread_is : (s m b : ℕ) → T (all_below (λ (k : ℕ). eqb (spread_by s m k) (spread_of k)) 256) → b < 256
+    → (spread_by s m b ≡ spread_of b) × (spread_by s m b ≤ 0x0101010101010101)
+spread_is s m b t h =
+    let d : spread_by s m b ≡ spread_of b = (eqb→eq (spread_by s m b) (spread_of b) (all_at (λ (k : ℕ). eqb (spread_by s m k) (spread_of k)) 256 t b h)) in
     (d, rw d (spread_le b))
 
 -- one bit of b in each byte, by the order o, moved down to the byte's lowest place
@@ -78,11 +78,10 @@ unfolding pack spread_of back_of
 taken_all true = tt
 taken_all false = tt
 
-module _ (flip : Bool) (b x o : ℕ) (e : x ≡ b) (h : b < 256) (d : o ≡ order_of flip) where
-  pub taken_is : taken o x ≡ cond flip (back_of b) (spread_of b)
-  taken_is =
-      rw (e, d)
-      (eqb→eq (taken (order_of flip) b) (cond flip (back_of b) (spread_of b)) (all_at (λ (k : ℕ). eqb (taken (order_of flip) k) (cond flip (back_of k) (spread_of k))) 256 (taken_all flip) b h))
+pub taken_is : (flip : Bool) (b o : ℕ) → b < 256 → o ≡ order_of flip → taken o b ≡ cond flip (back_of b) (spread_of b)
+taken_is flip b o h d =
+    rw d
+    (eqb→eq (taken (order_of flip) b) (cond flip (back_of b) (spread_of b)) (all_at (λ (k : ℕ). eqb (taken (order_of flip) k) (cond flip (back_of k) (spread_of k))) 256 (taken_all flip) b h))
 
 pub taken_most : (a : ℕ) → bit_and a 0x0101010101010101 ≤ 0x0101010101010101
 taken_most a = and_le_r a 0x0101010101010101

@@ -1,6 +1,6 @@
 // Eight pixels in a 64-bit word, the leftmost in the lowest byte. Inner functions, not public calls.
 // spread, numbers: a byte's bits one to a byte; pixel numbers from two bytes' bits. byte: one of the eight.
-// sprite_bytes: the eight pixels of a sprite's row, from either side (order, sided).
+// sprite_bytes: the eight pixels of a sprite's row, from either side (sided).
 #![tactic(auto)]
 
 ghost use Rattle.std.specs.Prelude.{◌≡◌, cond, ℕ, ◌+◌, ◌-◌, ◌*◌, ◌/◌, ◌%◌, ◌<◌, ◌≤◌};
@@ -27,11 +27,12 @@ const ALMOST: u64 = 0x7F7F7F7F7F7F7F7F;
 pub fn spread(b: u8) -> u64
     ensures { (result ≡ spread_of b) × (result ≤ 0x0101010101010101) }
 {
-    let x = bits::wide64(b);
+    let x = b as u64;
     (x * SPREAD + (x << 63) & HIGHEST) >> 7
 }
 
 // The pixel numbers of eight colours, given by their low bits and their high bits: 0 where both are 0, else 4q + colour.
+#[tactic(auto, using(crate::proofs::Colours::numbers_fit), unfolding(crate::specs::Pack::pixels_by))]
 pub fn numbers(low: u64, high: u64, q: u64) -> u64
     requires { (low ≤ 0x0101010101010101) × (high ≤ 0x0101010101010101) × (q < 16) }
     ensures { result ≡ pixels_by low high q }
@@ -40,35 +41,30 @@ pub fn numbers(low: u64, high: u64, q: u64) -> u64
 }
 
 // Byte k of n.
+#[tactic(auto, unfolding(crate::specs::Pack::byte_of))]
 pub fn byte(n: u64, k: usize) -> u8
     requires { k < 8 }
     ensures { result ≡ byte_of n k }
 {
-    bits::low_byte(n >> (8 * k))
-}
-
-// The bits that the pixels take.
-fn order(flip: bool) -> u64
-    ensures { (result ≡ cond flip 0x8040201008040201 0x0102040810204080) × (result ≤ 0x8040201008040201) }
-{
-    if flip { FROM_RIGHT } else { FROM_LEFT }
+    (n >> (8 * k) & 255) as u8
 }
 
 // The bits of b, one in each byte, bit 7 leftmost, or bit 0 if the sprite is flipped.
+#[tactic(auto, using(crate::proofs::Spreads::taken_cases))]
 fn sided(b: u8, flip: bool) -> u64
     ensures { (result ≡ cond flip (back_of b) (spread_of b)) × (result ≤ 0x0101010101010101) }
 {
-    let x = bits::wide64(b);
-    ((x * ONES & order(flip)) + ALMOST) >> 7 & ONES
+    let order = if flip { FROM_RIGHT } else { FROM_LEFT };
+    ((b as u64 * ONES & order) + ALMOST) >> 7 & ONES
 }
 
 // The eight pixels of a sprite's row: 0, or 16 + 4 × palette + colour, and 32 more where attribute bit 5 puts it behind.
+#[tactic(auto, using(crate::proofs::Colours::sprite_pack, std::proofs::lemmas::Grind::and_numeral))]
 pub fn sprite_bytes(s: Sprite) -> u64
-    ensures { result ≡ pack (λ (j : ℕ). number_of (4 + s.attribute % 4 + s.attribute / 32 % 2 * 8) (colour_of s.low s.high (cond (bit 64 s.attribute) j (7 - j)))) 8 }
+    ensures { result ≡ pack (λ (j : ℕ). number_of (4 + s.attribute % 4 + s.attribute / 32 % 2 * 8)
+        (colour_of s.low s.high (cond (bit 64 s.attribute) j (7 - j)))) 8 }
 {
     let flip = bits::bit(s.attribute, 6);
-    let low = sided(s.low, flip);
-    let high = sided(s.high, flip);
-    let q = 4 + bits::low8(s.attribute, 2) + bits::field(s.attribute, 5, 1) * 8;
-    numbers(low, high, bits::wide64(q))
+    let q = 4 + (s.attribute & 3) + bits::field(s.attribute, 5, 1) * 8;
+    numbers(sided(s.low, flip), sided(s.high, flip), q as u64)
 }

@@ -1,11 +1,7 @@
-use Rattle.accesses.proofs.Cases.{dma_cases, dma_oam_lem, dma_page}
+use Rattle.std.proofs.Common.{rules}
+use Rattle.model.specs.Calls.{plain_refusal, order, refusal_of, done, on_lent}
 use Rattle.accesses.proofs.dma.Goals as goal
 
-pub returns-then-n-ne0 : goal.returns-then-n-ne0
-returns-then-n-ne0 c = search dma_cases
-
-pub dma-requires : goal.dma-requires
-dma-requires c = (search dma_oam_lem, search dma_page)
-
 pub returns : goal.returns
-returns c = search dma_cases
+unfolding on_lent refusal_of plain_refusal order done
+returns c = search rules

@@ -1,11 +1,6 @@
-use Rattle.answers.proofs.Text.{put_cases}
+use Rattle.std.proofs.Common.{refl, arith}
+use Rattle.answers.proofs.Text.{put_at}
 use Rattle.answers.proofs.put.Goals as goal
 
-pub loop-i-init : goal.loop-i-init
-loop-i-init c = search put_cases
-
-pub loop-i-preserved : goal.loop-i-preserved
-loop-i-preserved c = search put_cases
-
 pub returns : goal.returns
-returns c = search put_cases
+returns c = (put_at _ _ _ _ _ c.requires (omega arith) c.copy_from_slice.ensures.after, refl)

@@ -1,23 +1,18 @@
-use lib.ListN.{length-set}
-use native.Mathlib.Omega.{arith}
-use Rattle.answers.proofs.Text.{decimal_cases}
-use borrow.Author.Rules.{rules}
+use Rattle.std.proofs.Common.{arith}
+use Rattle.answers.proofs.Text.{spelled, decimal_1, decimal_2, decimal_3}
 use Rattle.answers.proofs.put_decimal.Goals as goal
 
 pub returns-then-n-lt10 : goal.returns-then-n-lt10
-returns-then-n-lt10 c = (search decimal_cases, search decimal_cases, search rules)
-
-pub bounds-out-at-then-n-lt100-2 : goal.bounds-out-at-then-n-lt100-2
-bounds-out-at-then-n-lt100-2 c = simp length-set (omega arith)
+returns-then-n-lt10 c =
+    let s = spelled _ _ _ _ _ _ (decimal_1 _ _ c.if-n-lt10.true c.digit-3.ensures) c.put.ensures in
+    (s.0, s.1, omega arith)
 
 pub returns-then-n-lt100 : goal.returns-then-n-lt100
-returns-then-n-lt100 c = (search decimal_cases, search decimal_cases, search rules)
+returns-then-n-lt100 c =
+    let s = spelled _ _ _ _ _ _ (decimal_2 _ _ _ c.if-n-lt10.false c.if-n-lt100.true c.digit-2.ensures c.digit-3.ensures) c.put-then-n-lt100.ensures in
+    (s.0, s.1, omega arith)
 
-pub bounds-out-at-3 : goal.bounds-out-at-3
-bounds-out-at-3 c = simp length-set (omega arith)
-
-pub bounds-out-at-4 : goal.bounds-out-at-4
-bounds-out-at-4 c = simp length-set (omega arith)
-
-pub returns : goal.returns
-returns c = (search decimal_cases, search decimal_cases, search rules)
+pub returns-else-n-lt100 : goal.returns-else-n-lt100
+returns-else-n-lt100 c =
+    let s = spelled _ _ _ _ _ _ (decimal_3 _ _ _ _ c.if-n-lt10.false c.if-n-lt100.false c.digit.ensures c.digit-2.ensures c.digit-3.ensures) c.put-else-n-lt100.ensures in
+    (s.0, s.1, omega arith)

@@ -1,9 +1,6 @@
-use Prim.Native.Nat.{◌-◌}
-use Rattle.choice.proofs.Overflow.{Past}
+use Prim.Native.Nat.{◌*◌}
+use Rattle.choice.proofs.Overflow.{Few}
 use Rattle.choice.proofs.eighth.Given as goal
 
-abbrev pub invariant-loop-at : goal.invariant-loop-at
-invariant-loop-at l = Past l.d l.h l.found l.at
-
-abbrev pub decreases-loop-at : goal.decreases-loop-at
-decreases-loop-at l = 48 - l.at
+abbrev pub invariant-loop-sixteen : goal.invariant-loop-sixteen
+invariant-loop-sixteen l = Few l.d l.h l.found (16 * l.sixteen)

@@ -6,6 +6,3 @@ loop-j-init c = search listed_loop
 
 pub loop-j-preserved : goal.loop-j-preserved
 loop-j-preserved c = search listed_loop
-
-pub returns : goal.returns
-returns c = (search listed_loop, search listed_loop)

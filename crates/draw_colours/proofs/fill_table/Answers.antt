@@ -1,11 +1,6 @@
-use Rattle.draw_colours.proofs.Cases.{table_cases}
+use native.Mathlib.Omega.{arith}
+use Rattle.draw_colours.proofs.Cases.{table_done}
 use Rattle.draw_colours.proofs.fill_table.Goals as goal
 
-pub loop-n-init : goal.loop-n-init
-loop-n-init c = search table_cases
-
-pub loop-n-preserved : goal.loop-n-preserved
-loop-n-preserved c = search table_cases
-
 pub returns : goal.returns
-returns c = search table_cases
+returns c = table_done _ _ _ c.loop-n.n c.loop-n.invariant.0 c.loop-n.invariant.1 (omega arith)

@@ -1,17 +1,15 @@
-use Rattle.logs.proofs.Playing.{play_cases}
+use native.Mathlib.Omega.{arith}
+use Rattle.logs.proofs.Playing.{play_more, play_ended, play_last, play_done}
 use Rattle.logs.proofs.play_log.Goals as goal
 
-pub loop-g-init : goal.loop-g-init
-loop-g-init c = search play_cases
-
-pub play_next-g-requires : goal.play_next-g-requires
-play_next-g-requires c = search play_cases
-
-pub loop-g-smaller : goal.loop-g-smaller
-loop-g-smaller c = search play_cases
-
-pub loop-g-preserved : goal.loop-g-preserved
-loop-g-preserved c = search play_cases
+pub loop-at-preserved : goal.loop-at-preserved
+loop-at-preserved c = play_more c.loop-at.invariant c.loop-at-test.true c.read_at-found.ensures.0 c.play_one-played.ensures c.if-played.false
 
 pub returns : goal.returns
-returns c = search play_cases
+returns c = play_done c.loop-at.invariant (omega arith)
+
+pub returns-then-played : goal.returns-then-played
+returns-then-played c = play_ended c.loop-at.invariant c.loop-at-test.true c.read_at-found.ensures.0 c.play_one-played.ensures c.if-played.true
+
+pub returns-else-played : goal.returns-else-played
+returns-else-played c = play_last c.loop-at.invariant c.loop-at-test.true c.read_at-found.ensures.0 c.play_one-played.ensures c.if-played.false (omega arith)

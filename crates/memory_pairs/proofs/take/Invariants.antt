@@ -1,9 +1,6 @@
-use Prim.Native.Nat.{◌-◌}
-use Rattle.memory_pairs.proofs.Cases.{Taken}
+use Rattle.std.proofs.Common.{◌≡◌, ℕ, ◌<◌, length, get_or}
+use Rattle.memory_pairs.specs.Pairs.{pair_at}
 use Rattle.memory_pairs.proofs.take.Given as goal
 
 abbrev pub invariant-loop-i : goal.invariant-loop-i
-invariant-loop-i l = Taken l.bytes l.initial.numbers l.numbers l.i
-
-abbrev pub decreases-loop-i : goal.decreases-loop-i
-decreases-loop-i l = 256 - l.i
+invariant-loop-i l = (length l.numbers ≡ 256) × ((k : ℕ) → k < l.i → get_or l.numbers k 0 ≡ pair_at l.bytes k)

@@ -1,6 +1,5 @@
-use Rattle.std.proofs.Common.{rules}
 use Rattle.player.proofs.Start.{begins}
 use Rattle.player.proofs.main.Goals as goal
 
 pub play_input-requires : goal.play_input-requires
-play_input-requires c = (search begins, search rules, search rules)
+play_input-requires c = search begins

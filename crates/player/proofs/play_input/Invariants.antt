@@ -1,11 +1,6 @@
-use Rattle.model.specs.Unit.{line_memory}
+use Rattle.player.specs.Turns.{memory_of}
 use Rattle.player.proofs.Cases.{Playing}
 use Rattle.player.proofs.play_input.Given as goal
 
-abbrev pub invariant-loop-turns : goal.invariant-loop-turns
-invariant-loop-turns l =
-    Playing l.fn.u (line_memory l.fn.left l.fn.right l.fn.nametables l.fn.oam l.fn.palette l.fn.line l.fn.colours) l.fn.out l.fn.block
-    l.p l.turns (line_memory l.left l.right l.nametables l.oam l.palette l.line l.colours) l.out l.block
-
-abbrev pub decreases-loop-turns : goal.decreases-loop-turns
-decreases-loop-turns l = l.turns
+abbrev pub invariant-loop-turn : goal.invariant-loop-turn
+invariant-loop-turn l = Playing l.fn.u (memory_of l.fn.m) l.fn.m.out l.fn.m.block l.p l._turn (memory_of l.m) l.m.out l.m.block

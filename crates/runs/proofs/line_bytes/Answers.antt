@@ -1,19 +1,18 @@
-use Rattle.runs.proofs.Cases.{run_refused, run_done_lem, line_long_lem, line_formed}
+use Rattle.runs.proofs.Cases.{formed, ram_long, colours_wrong, run_is}
 use Rattle.runs.proofs.line_bytes.Goals as goal
 
-pub returns-then-n-ne0 : goal.returns-then-n-ne0
-returns-then-n-ne0 c = search run_refused
+pub returns-in_default-as_mut_array : goal.returns-in_default-as_mut_array
+returns-in_default-as_mut_array c =
+    colours_wrong _ _ _ _ _ _ _ _ c.new.ensures c.in-Ok.ensures.value c.in-Ok.ensures.number
+    _ _ _ c.in-Some.ensures.cases _ _ c.requires _ c.in_default-as_mut_array.ensures.cases c.refused-in_default-as_mut_array.ensures
 
 pub one_line-one-requires : goal.one_line-one-requires
-one_line-one-requires c = (line_long_lem _ _ _ _ _ _ _ _ _ _ c.line_sizes-sized.ensures c.plain_refusal-n.ensures c.if-n-ne0.false, search line_formed)
+one_line-one-requires c = (
+  ram_long c.args.u c.args.left.now c.args.right.now c.args.nametables.now c.args.oam.now c.args.palette.now _ _ c.new.ensures c.in-Ok.ensures.value c.in-Ok.ensures.number,
+  formed c.args.u _ c.in-Ok.ensures.number,
+)
 
 pub returns : goal.returns
 returns c =
-    run_done_lem _ _ _ _ _ _ _ _ _ _
-    c.line_sizes-sized.ensures
-    c.plain_refusal-n.ensures
-    _ _ _ _ _ _ _ _
-    c.requires
-    c.if-n-ne0.false
-    c.one_line-one.ensures
-    c.ran.ensures
+    run_is _ _ _ _ _ _ _ _ c.new.ensures c.in-Ok.ensures.value c.in-Ok.ensures.number
+    _ _ _ c.in-Some.ensures.cases _ _ c.requires _ _ c.in-Some-as_mut_array.ensures.cases _ _ _ _ _ c.one_line-one.ensures c.ran.ensures

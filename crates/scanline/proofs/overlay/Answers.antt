@@ -9,27 +9,21 @@ use borrow.Author.Rules.{rules}
 use Rattle.scanline.proofs.overlay.Goals as goal
 
 pub sprite_row-requires : goal.sprite_row-requires
-sprite_row-requires c =
-    record { lengths = (search rules, search rules, search rules, search rules, search rules); listed = (λ p. zeros_at 264 p, search rules, search rules) }
+sprite_row-requires c = (λ p. zeros_at 264 p, search rules)
 
 pub merge_row-requires : goal.merge_row-requires
 merge_row-requires c =
     let a = c.args in
-    let long = c.requires.lengths.3 in
-    let given = c.requires.shown in
-    record {
-      lengths = (search rules, search rules, search rules, search rules, search rules);
-      listed = (
-        λ k lt. (listed_at a.u.control a.n a.count a.oam.now a.list.now given.4 long given.5 k lt).0,
-        λ p beside. c.clear.ensures p ∙ off (ltb p a.skip) _ (c.sprite_row.ensures.0 p
-            ∙ beside_none a.u.control a.n a.count a.oam.now a.list.now given.4 long given.5 a.left.now a.right.now p beside),
-      );
-    }
+    let given = c.requires in (
+      λ k lt. (listed_at a.u.control a.n a.oam.now a.shown.now given.4 k lt).0,
+      λ p beside. c.clear.ensures p ∙ off (ltb p a.skip) _ (c.sprite_row.ensures p
+          ∙ beside_none a.u.control a.n a.oam.now a.shown.now given.4 a.tables.left.now a.tables.right.now p beside),
+    )
 
 pub returns : goal.returns
 returns c =
     let a = c.args in
-    let given = c.requires.shown in
-    over_1 a.u a.left.now a.right.now a.oam.now a.skip c.sprite_row.new.pixels c.clear.new.row a.line.now _ given.3 given.1
-    (λ p. c.sprite_row.ensures.0 p ∙ ap (λ (n : ℕ). sprite_on a.u.control a.left.now a.right.now a.oam.now n p) given.0)
+    let given = c.requires in
+    over_1 a.u a.tables.left.now a.tables.right.now a.oam.now a.skip c.sprite_row.new.pixels c.clear.new.row a.line.now _ given.3 given.1
+    (λ p. c.sprite_row.ensures p ∙ ap (λ (n : ℕ). sprite_on a.u.control a.tables.left.now a.tables.right.now a.oam.now n p) given.0)
     c.clear.ensures c.merge_row.ensures

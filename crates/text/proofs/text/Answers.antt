@@ -1,11 +1,17 @@
-use Rattle.text.proofs.Cases.{long_cases, text_cases}
+use Rattle.std.proofs.Common.{refl}
+use Rattle.text.proofs.Cases.{page_wrong, table_wrong, rows_wrong, text_refused, text_done}
 use Rattle.text.proofs.text.Goals as goal
 
-pub put_rows-n-requires : goal.put_rows-n-requires
-put_rows-n-requires c = (search long_cases, search long_cases, search long_cases)
+pub returns-in_default : goal.returns-in_default
+returns-in_default c = text_refused _ _ _ _ _ (page_wrong _ _ _ c.in_default.ensures.cases) refl c.refused.ensures
 
-pub returns-then-sizes : goal.returns-then-sizes
-returns-then-sizes c = search text_cases
+pub returns-in_default-as_array : goal.returns-in_default-as_array
+returns-in_default-as_array c = text_refused _ _ _ _ _ (table_wrong _ _ _ c.in_default-as_array.ensures.cases) refl c.refused-in_default-as_array.ensures
+
+pub returns-in_default-as_mut_array : goal.returns-in_default-as_mut_array
+returns-in_default-as_mut_array c = text_refused _ _ _ _ _ (rows_wrong _ _ _ c.in_default-as_mut_array.ensures.cases) refl c.refused-in_default-as_mut_array.ensures
 
 pub returns : goal.returns
-returns c = search text_cases
+returns c =
+    text_done _ _ _ _ _ _ _ _ _ c.in-Some.ensures.cases c.in-Some-as_array.ensures.cases c.in-Some-as_mut_array.ensures.cases
+    c.put_rows-count.ensures.rows c.put_rows-count.ensures.count refl

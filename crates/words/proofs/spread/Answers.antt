@@ -5,4 +5,4 @@ use Rattle.words.proofs.spread.Goals as goal
 
 pub returns : goal.returns
 unfolding pack spread_of
-returns c = spread_is _ _ _ _ (search rules) c.wide64-x.ensures.0 (search rules)
+returns c = spread_is _ _ _ (search rules) (search rules)

@@ -1,5 +1,0 @@
-use Rattle.address.proofs.Cases.{page_cases}
-use Rattle.address.proofs.page.Goals as goal
-
-pub returns : goal.returns
-returns c = search page_cases

@@ -1,4 +1,0 @@
-use Rattle.memory.proofs.palette_byte.Goals as goal
-
-pub returns : goal.returns
-returns c = cc

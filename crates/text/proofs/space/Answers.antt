@@ -1,8 +1,0 @@
-use Rattle.text.proofs.Cases.{byte_cases}
-use Rattle.text.proofs.space.Goals as goal
-
-pub returns-then-b-eq0 : goal.returns-then-b-eq0
-returns-then-b-eq0 c = search byte_cases
-
-pub returns-else-b-eq0 : goal.returns-else-b-eq0
-returns-else-b-eq0 c = search byte_cases
