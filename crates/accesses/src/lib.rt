@@ -50,7 +50,7 @@ pub fn save(u: Ppu, saved: &mut [u8]) -> Access
     ensures { saved_of result saved.new ≡ save_call u saved.old }
 {
     let Some(saved) = saved.as_mut_array::<16>() else {
-        return unit::refused(Refusal::Length as u8, u);
+        return unit::refused(Refusal::Length as u8, u); // not 16 bytes
     };
     if !unit::well_formed(u) {
         return unit::refused(Refusal::Unit as u8, u);

@@ -103,13 +103,13 @@ fn line_record(
         Err(r) => return r as u64,
     };
     let Some(m) = Lent::new(u.board, left, right, nametables, oam, palette) else {
-        return Refusal::Length as u64;
+        return Refusal::Length as u64; // what is read
     };
     let Some(line) = line.as_mut_array::<256>() else {
-        return Refusal::Length as u64;
+        return Refusal::Length as u64; // the line
     };
     let Some(colours) = colours.as_mut_array::<512>() else {
-        return Refusal::Length as u64;
+        return Refusal::Length as u64; // its colours
     };
     if lines::draws(u) {
         let a = runs::line_bytes(

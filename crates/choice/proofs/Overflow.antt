@@ -222,7 +222,7 @@ module _ (c n : ℕ) (o d : List ℕ) (e : Distances n o d) (k : ℕ) where
   close_few f lt = few_over c n (height c) o d e refl (count_of (near d 0 (height c)) 64) refl (omega (arith, f, close_counts d 0 (height c) (omega arith)))
 
   module _ (h : ℕ) (g : h ≡ height c) (f : k ≡ count_of (near d 0 (h + 1)) 64) where
-    close_height : k ≡ count_of (near d 0 (height c + 1)) 64
+    pub close_height : k ≡ count_of (near d 0 (height c + 1)) 64
     close_height = rw g at f
 
     pub close_under : (b : Bool) → k < 8 → b ≡ leb 8 k → b ≡ overflows c o n

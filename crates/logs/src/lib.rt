@@ -1,10 +1,11 @@
 // The play of a log of accesses on a unit and lent memory, with what the player prints of it. Inner functions, not public calls.
-// play_one (one entry and its text), play_log (a whole log), whole, play_block (a block of a longer log).
+// play_one (one entry and its text), play_next (the next record of a log), play_log (a whole log), whole, play_block (a block of a longer log).
 // What is lent stands in each signature by itself: a struct that holds `&mut` cannot be passed on in a proof.
 #![tactic(auto)]
 
 ghost use Rattle.std.specs.Prelude.{◌≡◌, cond, ◌++◌, ◌+◌, ◌-◌, ◌*◌, ◌/◌, ◌≤◌, length, take, drop};
 ghost use Rattle.model.specs.Unit.{state, line_memory};
+ghost use Rattle.model.specs.Log.{records_of, entry_of};
 ghost use Rattle.logs.specs.Play.{IsStep, IsPlay, whole_bytes};
 
 use model::{Entry, Ppu};
@@ -22,6 +23,13 @@ pub struct Played {
 pub struct Block {
     pub played: Played,
     pub kept: usize,
+}
+
+// A play that goes on: the same so far, and the place of the next record.
+#[derive(Clone, Copy)]
+pub struct Going {
+    pub played: Played,
+    pub at: usize,
 }
 
 // An entry played after a play so far: its call, and its text stored in the output behind what is written.
@@ -52,6 +60,29 @@ fn play_one(
     }
 }
 
+// The record at the place of a play, played.
+fn play_next(
+    g: Going,
+    log: &[u8],
+    out: &mut [u8],
+    left: &mut [u8],
+    right: &mut [u8],
+    nametables: &mut [u8],
+    oam: &mut [u8],
+    palette: &mut [u8],
+    line: &mut [u8],
+    colours: &mut [u16],
+) -> Played
+    requires { g.played.written + 15 ≤ length out.old }
+    ensures { IsStep (entry_of (records_of (drop g.at log.now))) (state g.played.unit (line_memory left.old right.old nametables.old oam.old palette.old line.old colours.old))
+        out.old g.played.written result (line_memory left.new right.new nametables.new oam.new palette.new line.new colours.new) out.new }
+{
+    let e = reader::read_at(log, g.at).found;
+    play_one(
+        e, g.played, out, left, right, nametables, oam, palette, line, colours,
+    )
+}
+
 // A log played into the output, which must have room for the longest line, 15 bytes, of each record.
 pub fn play_log(
     u: Ppu,
@@ -75,9 +106,9 @@ pub fn play_log(
         ended: false,
     };
     for at in (0..log.len()).step_by(4) {
-        let found = reader::read_at(log, at).found;
-        played = play_one(
-            found, played, out, left, right, nametables, oam, palette, line, colours,
+        let g = Going { played, at };
+        played = play_next(
+            g, log, out, left, right, nametables, oam, palette, line, colours,
         );
         if played.ended {
             break;

@@ -32,7 +32,7 @@ pub record Given (f : ℕ → ℕ) (l : List ℕ) (i : ℕ) : Type 0 where
 pub given_start : (f : ℕ → ℕ) (l : List ℕ) → length l ≡ 512 → Given f l 0
 given_start f l h = record { long = h; same = λ k lt. absurd (omega (arith, lt)) }
 
-stored_long : (l : List ℕ) (k n : ℕ) → length (stored_pair l k n) ≡ length l
+pub stored_long : (l : List ℕ) (k n : ℕ) → length (stored_pair l k n) ≡ length l
 unfolding stored_pair
 stored_long l k n = length-set (set l (2 * k) (n % 256)) (2 * k + 1) (n / 256) ∙ length-set l (2 * k) (n % 256)
 

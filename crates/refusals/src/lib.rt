@@ -47,7 +47,7 @@ pub fn access<T: Copy>(lent: Option<T>, u: Ppu, address: u16, blocked: bool) -> 
     if !(8192..16384).contains(&address) {
         return Err(Refusal::Address);
     }
-    if blocked && unit::drawing(u) {
+    if unit::drawing(u) && blocked {
         return Err(Refusal::Drawing);
     }
     Ok(m)

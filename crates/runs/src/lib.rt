@@ -34,10 +34,10 @@ pub fn line_bytes(
         Ok(m) => m,
         Err(r) => return unit::refused(r as u8, u),
     };
-    let Some(line) = line.as_mut_array::<256>() else {
+    let Some(line) = line.as_mut_array() else {
         return unit::refused(Refusal::Length as u8, u);
     };
-    let Some(colours) = colours.as_mut_array::<512>() else {
+    let Some(colours) = colours.as_mut_array() else {
         return unit::refused(Refusal::Length as u8, u);
     };
     let one = scanline::one_line(u, reason, m, line, colours);

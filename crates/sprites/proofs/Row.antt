@@ -1,13 +1,13 @@
 -- The row of sprites: filled from the choice's list, and drawn.
-use Prim.Native.Nat.{ℕ, ◌+◌, ◌-◌, ◌<◌, ◌≤◌}
-use mathlib.Core.Path.{◌≡◌, refl, sym, ◌∙◌}
+use Prim.Native.Nat.{ℕ, suc, ◌+◌, ◌-◌, ◌<◌, ◌≤◌}
+use mathlib.Core.Path.{◌≡◌, refl, ap, sym, ◌∙◌}
 use mathlib.Core.Bool.{cond}
-use mathlib.Core.List.{List, [], ◌∷◌, ◌++◌, map, map-append}
+use mathlib.Core.List.{List, [], ◌∷◌, ◌++◌, map, map-append, append_assoc}
 use native.Mathlib.Omega.{arith}
 use native.Mathlib.Numerals.{add-one}
 use lib.Dec.{eqb}
-use lib.ListN.{length, get_or, set, take, length-set}
-use lib.Seq.{take-suc, take-suc-set, take_all, take-length}
+use lib.ListN.{length, get_or, set, take, drop, length-set, length-map}
+use lib.Seq.{take-suc, drop-cons, set_at, take_at, take_all, take-length, length-take-le}
 use Rattle.model.specs.declared.Sprite.{Sprite}
 use Rattle.model.specs.Sprites.{covers, places_of, fetched, shade, winner, sprite_on}
 use Rattle.sprites.specs.Row.{shown_on}
@@ -17,20 +17,25 @@ use Rattle.sprites.proofs.Winner.{winner_more, winner_shown, shown_listed}
 abbrev pub none : Sprite
 none = record { low = 0; high = 0; attribute = 0; x = 0 }
 
--- ---- the row has the first i sprites of the list, as line m + 1 shows them
-module _ (c m : ℕ) (left right o list : List ℕ) where
+-- ---- the row has the first i sprites of the list, as line m + 1 shows them; past them it is as it was, ys
+module _ (c m : ℕ) (left right o list : List ℕ) (ys : List Sprite) where
   pub record Filled (row : List Sprite) (i : ℕ) : Type 0 where
     pub long : length row ≡ 8
-    pub here : take i row ≡ map (fetched c left right o m) (take i list)
+    pub here : row ≡ map (fetched c left right o m) (take i list) ++ drop i ys
 
-  pub filled_none : (row : List Sprite) → length row ≡ 8 → Filled row 0
-  filled_none row h = record { long = h; here = refl }
+  pub filled_none : length ys ≡ 8 → Filled ys 0
+  filled_none h = record { long = h; here = refl }
 
-  pub filled_more : (row : List Sprite) (i : ℕ) (s : Sprite) → Filled row i → i < 8 → i < length list → s ≡ fetched c left right o m (get_or list i 0) → Filled (set row i s) (i + 1)
-  filled_more row i s d k h e =
+  length_put : (i : ℕ) → i ≤ length list → length (map (fetched c left right o m) (take i list)) ≡ i
+  length_put i h = length-map (take i list) (fetched c left right o m) ∙ length-take-le i list h
+
+  pub filled_more : (row : List Sprite) (i : ℕ) (s : Sprite) → Filled row i → length ys ≡ 8 → i < 8 → i < length list → s ≡ fetched c left right o m (get_or list i 0) → Filled (set row i s) (i + 1)
+  filled_more row i s d y k h e =
       record {
         long = simp length-set d.long;
-        here = rw (add-one i, take-suc-set row i s (omega (arith, d.long)), d.here, e, take-suc list i 0 h, map-append (fetched c left right o m) (take i list) (get_or list i 0 ∷ []));
+        here =
+            rw (d.here, e, add-one, drop-cons ys i none (omega (arith, y)), set_at (map (fetched c left right o m) (take i list)) (get_or ys i none) (drop (suc i) ys) (fetched c left right o m (get_or list i 0)) i (length_put i (omega arith)), take-suc list i 0 h, map-append (fetched c left right o m) (take i list) (get_or list i 0 ∷ []))
+            (sym (append_assoc (map (fetched c left right o m) (take i list)) (fetched c left right o m (get_or list i 0) ∷ []) (drop (suc i) ys)));
       }
 
 -- ---- the pixels with the first i sprites of the row over them
@@ -54,9 +59,11 @@ pub ruleset drawn_loop = (drawn_none, drawn_more, drawn_all)
 
 -- ---- filled, then drawn: the line's winners
 module _ (c n : ℕ) (left right o list : List ℕ) (e : list ≡ cond (eqb n 0) [] (take 8 (places_of (covers c o (n - 1)) 64))) where
-  pub filled_shown : (row : List Sprite) (i : ℕ) → Filled c (n - 1) left right o list row i → i ≡ length list → take (length list) row ≡ shown_on c left right o n
-  filled_shown row i d z = (rw (z, take-length list) at d.here) ∙ shown_listed c n o list e left right
+  pub filled_shown : (ys row : List Sprite) (i : ℕ) → Filled c (n - 1) left right o list ys row i → i ≡ length list → row ≡ shown_on c left right o n ++ drop (length list) ys
+  filled_shown ys row i d z = d.here ∙ rw (z, take-length list, shown_listed c n o list e left right)
 
-pub drawn_shown : (c n : ℕ) (left right o : List ℕ) (row : List Sprite) (pixels : List ℕ) → row ≡ shown_on c left right o n → ((p : ℕ) → get_or pixels p 0 ≡ winner row p)
-    → (p : ℕ) → get_or pixels p 0 ≡ sprite_on c left right o n p
-drawn_shown c n left right o row pixels z w p = w p ∙ rw z (winner_shown c n left right o p)
+  pub drawn_shown : (ys row : List Sprite) (pixels : List ℕ) → row ≡ shown_on c left right o n ++ drop (length list) ys → ((p : ℕ) → get_or pixels p 0 ≡ winner (take (length list) row) p)
+      → (p : ℕ) → get_or pixels p 0 ≡ sprite_on c left right o n p
+  drawn_shown ys row pixels z w p =
+      let k : length (shown_on c left right o n) ≡ length list = ap length (sym (shown_listed c n o list e left right)) ∙ length-map list (fetched c left right o (n - 1)) in
+      w p ∙ rw (z, take_at (shown_on c left right o n) (drop (length list) ys) (length list) k) (winner_shown c n left right o p)

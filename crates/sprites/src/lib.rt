@@ -3,7 +3,7 @@
 // merge_row, zero_meets: those pixels over a line, sprite 0's hit. Within: covering. Pixels have 264 columns, so that a sprite at X = 255 has room; a line shows the first 256.
 #![tactic(auto)]
 
-ghost use Rattle.std.specs.Prelude.{◌≡◌, cond, [], ℕ, ◌-◌, ◌<◌, ◌≤◌, eqb, length, get_or, take};
+ghost use Rattle.std.specs.Prelude.{◌≡◌, cond, [], ◌++◌, ℕ, ◌-◌, ◌<◌, ◌≤◌, eqb, length, get_or, take, drop};
 ghost use Rattle.model.specs.Line.{tab, merged};
 ghost use Rattle.pixels.specs.Row.{meets_of};
 ghost use Rattle.model.specs.Sprites.{covers, places_of, shade, winner, sprite_on, sprite_zero_on};
@@ -30,18 +30,12 @@ pub fn put_sprite(s: Sprite, row: &mut [u8; 264])
     pixels::put_over(row, usize::from(s.x), words::sprite_bytes(s));
 }
 
-// The sprites that line n shows, by the choice's list of them, into the front of the row in OAM order.
+// The sprites that line n shows, by the choice's list of them, into the front of the row in OAM order. Places past them stay as they are.
 #[tactic(auto, using(crate::proofs::Row::filled_shown, crate::proofs::Winner::listed_small, crate::proofs::Winner::listed_covers))]
-fn fill_row(
-    row: &mut [Sprite; 8],
-    control: u8,
-    n: u8,
-    tables: Tables,
-    oam: &[u8; 256],
-    shown: &[u8],
-)
-    requires { (length shown.now ≤ 8) × (shown.now ≡ cond (eqb n 0) [] (take 8 (places_of (covers control oam.now (n - 1)) 64))) }
-    ensures { take (length shown.now) row.new ≡ shown_on control tables.entry.left.now tables.entry.right.now oam.now n }
+fn fill_row(row: &mut [Sprite], control: u8, n: u8, tables: Tables, oam: &[u8; 256], shown: &[u8])
+    requires { (length row.old ≡ 8) × (length shown.now ≤ 8)
+        × (shown.now ≡ cond (eqb n 0) [] (take 8 (places_of (covers control oam.now (n - 1)) 64))) }
+    ensures { row.new ≡ shown_on control tables.entry.left.now tables.entry.right.now oam.now n ++ drop (length shown.now) row.old }
 {
     let above = usize::from(n.saturating_sub(1));
     for i in 0..shown.len() {
@@ -50,13 +44,13 @@ fn fill_row(
     }
 }
 
-// The winning pixel of every column: the first sprites of the row are put first.
+// The winning pixel of every column, from the first `count` sprites of the row: the first are put first.
 #[tactic(auto, using(crate::proofs::Row::drawn_loop))]
-fn draw_row(row: &[Sprite], pixels: &mut [u8; 264])
-    requires { (p : ℕ) → get_or pixels.old p 0 ≡ 0 }
-    ensures { (p : ℕ) → get_or pixels.new p 0 ≡ winner row.now p }
+fn draw_row(row: &[Sprite], count: usize, pixels: &mut [u8; 264])
+    requires { (count ≤ length row.now) × ((p : ℕ) → get_or pixels.old p 0 ≡ 0) }
+    ensures { (p : ℕ) → get_or pixels.new p 0 ≡ winner (take count row.now) p }
 {
-    for &sprite in row {
+    for &sprite in &row[..count] {
         put_sprite(sprite, pixels);
     }
 }
@@ -81,7 +75,7 @@ pub fn sprite_row(
         x: 0,
     }; 8];
     fill_row(&mut row, control, n, tables, oam, shown);
-    draw_row(&row[..shown.len()], pixels);
+    draw_row(&row, shown.len(), pixels);
 }
 
 // The sprites' row over a line, in the eight columns of each of the shown sprites: elsewhere the row has none.

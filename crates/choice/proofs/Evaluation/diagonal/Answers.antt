@@ -15,7 +15,7 @@ returns-then-tried_one-gt0 c = (
 
 pub loop-i-preserved : goal.loop-i-preserved
 loop-i-preserved c =
-    diagonal_more _ _ _ _ _ c.loop-i.invariant _ _ c.height-h.ensures.0 c.tried_one.ensures.0 c.loop-i-test.true c.if-tried_one-gt0.false _ (and_numeral (c.loop-i.b + 1) 2 refl) (omega (arith, and_numeral (c.loop-i.b + 1) 2 refl))
+    diagonal_more _ _ _ _ _ c.loop-i.invariant _ _ c.height-h.ensures.0 c.tried_one.ensures.0 c.loop-i-test.true c.if-tried_one-gt0.false _ (omega (arith, and_numeral (c.loop-i.b + 1) 2 refl)) (omega (arith, and_numeral (c.loop-i.b + 1) 2 refl))
 
 pub returns : goal.returns
 returns c = (end_looked _ _ _ _ _ c.loop-i.invariant c.loop-i-test.false, end_over _ _ _ _ _ c.loop-i.invariant c.loop-i-test.false)
