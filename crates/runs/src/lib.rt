@@ -55,7 +55,7 @@ pub fn undrawn_line(u: Ppu, reason: u8) -> Access
 
 // At most `lines` lines, up to the one that meets the reason to stop: 0 none, 1 NMI, 2 status bit 6 from 0 to 1. It reports how many lines it
 // ran, and whether the reason was met.
-#[tactic(auto, unfolding(model::specs::Calls::on_lent, model::specs::Calls::refusal_of, model::specs::Calls::plain_refusal, model::specs::Calls::order))]
+#[tactic(auto, unfolding(model::specs::Calls::on_lent, model::specs::Calls::refusal_of, model::specs::Calls::plain_refusal, model::specs::Calls::order), using(model::proofs::Colours::sized_bytes))]
 pub fn run_bytes(
     u: Ppu,
     lines: u16,

@@ -1,10 +1,6 @@
-use Rattle.runs.proofs.Cases.{formed, ram_long, colours_wrong, run_is}
+use Rattle.std.proofs.Common.{rules}
+use Rattle.runs.proofs.Cases.{formed, ram_long, run_is}
 use Rattle.runs.proofs.run_bytes.Goals as goal
-
-pub returns-in_default-as_mut_array : goal.returns-in_default-as_mut_array
-returns-in_default-as_mut_array c =
-    colours_wrong _ _ _ _ _ _ _ _ c.new.ensures c.in-Ok.ensures.value c.in-Ok.ensures.number
-    _ _ _ c.in-Some.ensures.cases _ _ c.requires _ c.in_default-as_mut_array.ensures.cases c.refused-in_default-as_mut_array.ensures
 
 pub run-r-requires : goal.run-r-requires
 run-r-requires c = (
@@ -15,4 +11,4 @@ run-r-requires c = (
 pub returns : goal.returns
 returns c =
     run_is _ _ _ _ _ _ _ _ c.new.ensures c.in-Ok.ensures.value c.in-Ok.ensures.number
-    _ _ _ c.in-Some.ensures.cases _ _ c.requires _ _ c.in-Some-as_mut_array.ensures.cases _ _ _ _ _ c.run-r.ensures c.ran.ensures
+    _ _ _ c.in-Some.ensures.cases _ _ c.requires _ _ c.in-Some-as_mut_array.ensures.cases _ _ _ _ _ c.run-r.ensures (search rules)
